@@ -5,10 +5,15 @@
 
 That file has each kind once, in the order of ranks. From it `--write` writes, in the sources, the variants of row faults and their
 texts (`crates/tcc_rows/src/fault.rt`), the words and statuses that the program prints (`specs/Kinds.antt` and `src/kinds.rt` of
-`tcc_print`), and the cases of a proof (`crates/tcc_full/proofs/NoFloats.antt`). So it writes the public names (`surface.txt`), the
-tables of docs/FORMATS.md, the lists of the man page and of GUIDE, the words of both schemas, the module `kinds` of the package, and
-the row cases that go through the kinds (`row-faults-as-json.json`, `check-row-faults.json`). Without it a part that is another is
-one line, as `run.py` has it, which asks this too; the last line is `N passed, M failed`.
+`tcc_print`), what its notes quote and expect (`specs/RowNotes.antt` and `src/notes/mending.rt` there), and the cases of a proof
+(`crates/tcc_full/proofs/NoFloats.antt`). So it writes the public names (`surface.txt`), the tables of docs/FORMATS.md, the lists of
+the man page and of GUIDE, the words of both schemas, the module `kinds` of the package, and the row cases that go through the kinds
+(`row-faults-as-json.json`, `check-row-faults.json`). Without it a part that is another is one line, as `run.py` has it, which asks
+this too; the last line is `N passed, M failed`.
+
+Of a row fault `quotes` is what its note shows: one of the four fields, the record, or nothing. For a word the record is shown where
+it has one field. The note goes on with `expected` and what `expects` says, a text or one of `FORMS`; or it is what `says` has. A
+kind with neither is a limit, whose text is in `limit_text` and `push_limit`.
 """
 import functools
 import json
@@ -28,6 +33,13 @@ Json = Dict[str, Any]
 SOURCE_WIDTH, PAGE_WIDTH, SCHEMA_WIDTH = 100, 120, 150
 QUOTED = re.compile(r"`([^`]+)`")
 CODE = re.compile(r"((?:Status::\w+[ |]*)+) => (\d+),")
+FIELDS = ("session", "word", "key", "value")
+# What is expected of several kinds, in the code and in the specs.
+FORMS = {"NAME": ("NAME", "name_form"), "RECORD": ("RECORD", "record_form"), "WORD": ("word_stands(fields)", "(word_stands fields)")}
+# The arms of the match of a call whose clause ends so.
+ARMS = r"(?s:(?<=%s \}\n\{\n    match kind \{\n).*?(?=    \}\n\}\n))"
+# How wide the arguments of a call may be that is in one line.
+CALL_WIDTH = 60
 
 
 @functools.lru_cache(maxsize=None)
@@ -54,29 +66,94 @@ def variants() -> str:
     return "pub enum RowFaultKind {\n" + "".join(found) + "}\n"
 
 
+def matched(of: str, one: Json) -> str:
+    """The variant as a clause of the specs or of a proof has it."""
+    return "(%s.%s %s)" % (of, one["kind"], one["carries"].partition(":")[0]) if "carries" in one else "%s.%s" % (of, one["kind"])
+
+
+def matched_in_code(enum: str, one: Json) -> str:
+    return "%s::%s%s" % (enum, one["kind"], " { .. }" if "carries" in one else "")
+
+
 def told(of: str, kind: Json) -> str:
     """What the specs say of a kind."""
     name = kind["kind"]
-    which = "(%s_kind.%s %s)" % (of, name, kind["carries"].partition(":")[0]) if "carries" in kind else "%s_kind.%s" % (of, name)
     short = {"Limit": "passed_limit", "CertificateFault": "wrong_text"}.get(kind["status"])
     said = "%s (codes \"%s\")" % (short, name) if short else "record { word = codes \"%s\"; status = %s }" % (name, kind["status"])
-    return "%s = %s\n" % (which, said)
+    return "%s = %s\n" % (matched(of + "_kind", kind), said)
 
 
 def of_specs(list_of: str, call: str, of: str) -> str:
     return "".join("%s %s" % (call, told(of, one)) for one in kinds()[list_of])
 
 
+def arm(names: List[str], guard: str, call: str, arguments: List[str]) -> str:
+    """An arm of a match for these kinds, in lines that `rt fmt` leaves as they are; nothing where there is none."""
+    if not names:
+        return ""
+    head = "        %s%s =>" % (" | ".join(names), guard)
+    if len(head) > SOURCE_WIDTH:
+        head = "        %s%s =>" % ("\n        | ".join(names), guard and "\n            " + guard.strip())
+    body = "%s(%s)" % (call, ", ".join(arguments)) if arguments else call
+    is_long = len(head.splitlines()[-1]) + len(body) + 2 > SOURCE_WIDTH
+    if is_long and not arguments:
+        return "%s {\n            %s\n        }\n" % (head, body)
+    if is_long or len(body) > len(call) + 2 + CALL_WIDTH:
+        body = "%s(\n%s        )" % (call, "".join("            %s,\n" % one for one in arguments))
+    return "%s %s,\n" % (head, body)
+
+
 def of_code(list_of: str, enum: str) -> str:
-    return "".join("        %s::%s%s => Told::new(\"%s\", Status::%s),\n" % (
-        enum, one["kind"], " { .. }" if "carries" in one else "", one["kind"], one["status"]) for one in kinds()[list_of])
+    return "".join(arm([matched_in_code(enum, one)], "", "Told::new", ['"%s"' % one["kind"], "Status::" + one["status"]])
+                   for one in kinds()[list_of])
 
 
 def of_proof() -> str:
     """The cases of a lemma on row faults; the kinds that carry something come first."""
     ordered = sorted(kinds()["row"], key=lambda one: "carries" not in one)
-    return "".join("in_session %s = refl\n" % ("(row.%s %s)" % (one["kind"], one["carries"].partition(":")[0]) if "carries" in one else
-                                               "row." + one["kind"]) for one in ordered)
+    return "".join("in_session %s = refl\n" % matched("row", one) for one in ordered)
+
+
+def quoted_in_specs() -> str:
+    """What a note quotes of the record."""
+    shown = {"record": "shown.Record", "nothing": "shown.Nothing", "word": "if nat_eq fields 1 then shown.Record else shown.Field 1"}
+    return "".join("shown_of %s fields = %s\n" % (
+        matched("row_kind", one), shown.get(one["quotes"]) or "shown.Field %d" % FIELDS.index(one["quotes"])) for one in kinds()["row"])
+
+
+def expected_in_specs() -> str:
+    """What a note says is expected."""
+    def text(one: Json) -> str:
+        if "says" in one:
+            return "codes " + json.dumps(one["says"])
+        if "expects" in one:
+            return "stands_text " + (FORMS[one["expects"]][1] if one["expects"] in FORMS else "(codes %s)" % json.dumps(one["expects"]))
+        return "limit_text limits " + matched("row_kind", one)
+
+    return "".join("expected_text limits %s fields = %s\n" % (matched("row_kind", one), text(one)) for one in kinds()["row"])
+
+
+def quoted_in_code() -> str:
+    by = {name: [matched_in_code("RowFaultKind", one) for one in kinds()["row"] if one["quotes"] in name.split()]
+          for name in (*FIELDS, "nothing", "record word")}
+    fields = "".join(arm(by[name], " if fields != 1" if name == "word" else "", "Shown::Field(%d)" % at, []) for at, name in enumerate(FIELDS))
+    return fields + arm(by["nothing"], "", "Shown::Nothing", []) + arm(by["record word"], "", "Shown::Record", [])
+
+
+def expected_in_code() -> str:
+    """Kinds of which the same is expected have one arm, and the limits the last."""
+    calls: Dict[Tuple[str, ...], List[str]] = {}
+    limited = ("push_limit", "alloc", "text", "limits", "kind")
+    for one in kinds()["row"]:
+        if "says" in one:
+            call: Tuple[str, ...] = ("push", "text", "&[b%s]" % json.dumps(one["says"]))
+        elif "expects" in one:
+            call = ("push_stands", "text", FORMS[one["expects"]][0] if one["expects"] in FORMS else json.dumps(one["expects"]))
+        else:
+            call = limited
+        calls.setdefault(call, []).append(matched_in_code("RowFaultKind", one))
+    ordered = sorted(calls, key=lambda call: call == limited)
+    return "".join(arm(calls[call], "", call[0], list(call[1:])) for call in ordered)
 
 
 def of_surface() -> str:
@@ -205,8 +282,12 @@ WRITTEN: Tuple[Tuple[str, str, Callable[[], str]], ...] = (
     ("crates/tcc_rows/src/fault.rt", r"(?s:pub enum RowFaultKind \{\n.*?\n\}\n)", variants),
     ("crates/tcc_print/specs/Kinds.antt", r"(?m:^row_told .*\n)+(?=\n)", lambda: of_specs("row", "row_told", "row")),
     ("crates/tcc_print/specs/Kinds.antt", r"(?:certificate_told text_kind.*\n)+", lambda: of_specs("certificate", "certificate_told", "text")),
-    ("crates/tcc_print/src/kinds.rt", r"(?: +RowFaultKind::.* => Told.*\n)+", lambda: of_code("row", "RowFaultKind")),
-    ("crates/tcc_print/src/kinds.rt", r"(?: +CertFaultKind::.* => Told.*\n)+", lambda: of_code("certificate", "CertFaultKind")),
+    ("crates/tcc_print/src/kinds.rt", r"(?: +RowFaultKind::.* => Told::new\([^)]*\),\n)+", lambda: of_code("row", "RowFaultKind")),
+    ("crates/tcc_print/src/kinds.rt", r"(?: +CertFaultKind::.* => Told::new\([^)]*\),\n)+", lambda: of_code("certificate", "CertFaultKind")),
+    ("crates/tcc_print/specs/RowNotes.antt", r"(?m:^shown_of .*\n)+", quoted_in_specs),
+    ("crates/tcc_print/specs/RowNotes.antt", r"(?m:^expected_text .*\n)+", expected_in_specs),
+    ("crates/tcc_print/src/notes/mending.rt", ARMS % r"shown_of kind\.now fields", quoted_in_code),
+    ("crates/tcc_print/src/notes/mending.rt", ARMS % r"expected_text limits kind\.now fields\)", expected_in_code),
     ("crates/tcc_full/proofs/NoFloats.antt", r"(?:in_session \(?row\..*\n)+", of_proof),
     ("tests/docs/surface.txt", r"RowFaultKind::\w+(?: RowFaultKind::\w+)*", of_surface),
     ("docs/FORMATS.md", r"\| kind \| where \| status \|\n(?:\|.*\n)+", of_formats),

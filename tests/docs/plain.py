@@ -8,10 +8,10 @@ and in none more than 35. So are those of the man page, without its tags and its
 a link its text counts. README and the pages of docs/ have at most `MOST` words together, tables and headings counted too. `WORDS`
 has the words that a reader stumbled over, each only in the sense in which another word is the usual one. Each comes with an example
 that has to be refused and one that has to pass. They are looked for in tables and headings too, in the man page, and in the
-comments and docstrings of all scripts. So they are in the comments of the crates that have gone through it (`READ`), whose
-sentences are counted too. Printed texts are code, so they keep their words. Each term of the glossary has to be used in some other
-document. Each difference is one line, as `run.py` has it, which asks this of all documents. With documents on the command line
-these are asked, and their average is shown. The last line is `N passed, M failed`.
+comments and docstrings of all scripts, and in the comments of all crates, whose sentences are counted too. Printed texts are
+code, so they keep their words. Each term of the glossary has to be used in some other document. Each difference is one line, as
+`run.py` has it, which asks this of all documents. With documents on the command line these are asked, and their average is
+shown. The last line is `N passed, M failed`.
 """
 import ast
 import io
@@ -36,8 +36,8 @@ FONT = re.compile(r"\.(?:[BI]|BR|RB|BI|IB|IR|RI) (.*)")
 IMAGE = re.compile(r"!\[[^\]]*\]\([^)]*\)")
 LINK = re.compile(r"\[([^\]]*)\]\([^)]*\)")
 TERM = re.compile(r"^\| ([^|]+?) \| [^-]", re.MULTILINE)
-# The crates whose comments have gone through `WORDS`, and what a comment is in their files.
-READ = ("tcc", "tcc_answer", "tcc_checker", "tcc_cli", "tcc_full", "tcc_slices", "tcc_survey", "tcc_survey_run")
+# The crates, and what a comment is in their files.
+CRATES = sorted(path.name for path in (TOP / "crates").iterdir() if path.is_dir())
 COMMENT = {".rt": re.compile(r"(?:^|(?<=\s))//[/!]?(.*)$"), ".antt": re.compile(r"--(.*)$")}
 ITEM = re.compile(r"^\s*(?:[-*]|\d+\.)\s+")
 # A full stop, with what closes after it, before a space and what may begin a sentence.
@@ -217,9 +217,9 @@ def faults_of_crate(crate: str) -> Iterator[Outcome]:
 
 
 def faults_of_comments() -> Iterator[Outcome]:
-    """Which words of comments have a better one, in the scripts and in the crates of `READ`."""
+    """Which words of comments have a better one, in the scripts and in the crates."""
     scripts = (path for folder in ("python", "recipes", "tests", "bench") for path in (TOP / folder).rglob("*.py"))
-    sources = (path for crate in READ for path in (TOP / "crates" / crate).rglob("*") if path.suffix in COMMENT)
+    sources = (path for crate in CRATES for path in (TOP / "crates" / crate).rglob("*") if path.suffix in COMMENT)
     for path in (*scripts, *sources):
         name = path.relative_to(TOP).as_posix()
         if "out" not in name.split("/"):
@@ -249,7 +249,7 @@ def outcomes() -> Iterator[Outcome]:
     yield from faults_of_all()
     yield from faults_of_page()
     yield from faults_of_comments()
-    for crate in READ:
+    for crate in CRATES:
         yield from faults_of_crate(crate)
     yield from faults_of_glossary()
 

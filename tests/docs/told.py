@@ -1,15 +1,14 @@
 #!/usr/bin/env python3
-"""What the documents say about statuses and limits, from the sources.
+"""What the documents say about statuses, limits and ties, from the sources.
 
     told.py [--write]
 
 The words of a status are those of its variant in `crates/tcc_print/src/status.rt`, and its number is that of `code` there. The
-limits are the constants of `crates/tcc_txn/src/limits.rt` and of `crates/tcc_base/src/workers.rt`, and which status a fault has
-is in `crates/tcc_print/src/kinds.rt`. From these come the exit statuses and the limits of docs/GUIDE.md and of the man page, the
-limits of the package, and the sentences with a limit in documents and help (`HELD`). `--write` writes them all anew. What else
-names a status is compared with them: the row faults of docs/FORMATS.md, the kinds that the man page names, and help. And README has
-no more words than it may have. Each difference is one line, as `run.py` has it, which asks this too; the last line is `N passed, M
-failed`.
+limits are the constants of `crates/tcc_txn/src/limits.rt` and of `crates/tcc_base/src/workers.rt`. From these come the exit
+statuses and the limits of docs/GUIDE.md and of the man page, the limits of the package, and the sentences with a limit in documents
+and help (`HELD`). The rule of ties in docs/MODEL.md comes from the comments of `crates/tcc_graph/specs/Ties.antt`. `--write` writes
+them all anew. `kinds.py` writes what names the kinds of faults. Help has to name each status, and README has no more words than it
+may have. Each difference is one line, as `run.py` has it, which asks this too; the last line is `N passed, M failed`.
 """
 import pathlib
 import re
@@ -23,12 +22,12 @@ from counted import Outcome  # noqa: E402
 from kinds import codes  # noqa: E402
 from limits import filled, form_of, limits  # noqa: E402
 
-README, GUIDE, PAGE = TOP / "README.md", TOP / "docs/GUIDE.md", TOP / "docs/tcc.1"
+README, GUIDE, MODEL, PAGE = TOP / "README.md", TOP / "docs/GUIDE.md", TOP / "docs/MODEL.md", TOP / "docs/tcc.1"
 LIMITS_OF_PACKAGE = TOP / "python/tcc/limits.py"
 MOST_WORDS = 965
 VARIANT = re.compile(r"((?: *///.*\n)+) *(\w+),\n")
-FAULT = re.compile(r"(Row|Cert)FaultKind::(\w+)[^=]*=> Told::new\(\"\w+\", Status::(\w+)\)")
 QUOTED = re.compile(r"`([^`]+)`")
+COMPARED = re.compile(r"((?:^-- .*\n)+)abbrev pub (\w+_(?:cmp|kind)) :", re.MULTILINE)
 LIMITS = ("{MAX_SESSIONS} sessions, {MAX_TRANSACTIONS} transactions%s of {MAX_OPERATIONS} operations%s, {MAX_KEYS} keys, "
           "{MAX_SEALS} seals%s {MAX_INPUT_BYTES} bytes")
 LARGE = "{LARGE_SESSIONS} sessions, {LARGE_TRANSACTIONS} transactions, {LARGE_KEYS} keys, {LARGE_SEALS} seals%s {LARGE_INPUT_BYTES} bytes"
@@ -57,12 +56,6 @@ HELD = {
         "There are at most {MAX_SESSIONS}, each name once", "`TooManySessions` that {MAX_SESSIONS} are open"),
     "docs/FORMATS.md": (
         "names: 1 to {MAX_NAME_BYTES} bytes",
-        "| TooManyOps | operation {MAX_OPERATIONS+1} of a transaction |",
-        "| TooManySessions | `begin` of a {MAX_SESSIONS+1}th session |",
-        "| TooManyTransactions | `begin` of transaction {MAX_TRANSACTIONS+1},",
-        "| TooManyKeys | a {MAX_KEYS+1}th key,",
-        "| TooManySeals | `seal` number {MAX_SEALS+1} |",
-        "gave more than {MAX_INPUT_BYTES} bytes",
         "TooManySessions at a {LARGE_SESSIONS+1}th session, TooManyTransactions at transaction {LARGE_TRANSACTIONS+1}, TooManyKeys "
         "at a {LARGE_KEYS+1}th key, TooManySeals at `seal` number {LARGE_SEALS+1}, and Read after {LARGE_INPUT_BYTES} bytes",
         "but a {MAX_SEALS+1}th is TooManySeals"),
@@ -112,6 +105,12 @@ def statuses_of_page() -> str:
     return "of its last answer, or of the fault that ended the run.\n" + "".join(items)
 
 
+def rule_of_ties() -> str:
+    """The rule of ties, from cycles to steps, as the comments of its comparisons have it. Documents say start, and not its number."""
+    told = [(" ".join(line[3:] for line in comment.splitlines()), name) for comment, name in COMPARED.findall(source("tcc_graph/specs/Ties.antt"))]
+    return "".join("- %s%s: `%s`.\n" % (text[0].upper(), text[1:].replace("start number", "start"), name) for text, name in reversed(told))
+
+
 def of_package() -> str:
     """The module of limits of the package."""
     lines = "".join("%s = %d\n" % pair for pair in limits().items() if not pair[0].endswith("_COUNT"))
@@ -126,6 +125,7 @@ WRITTEN = (
     (GUIDE, r"\| of a history, at most .*?\n(?=\n)", lambda: filled(IN_GUIDE)),
     (PAGE, r"of its last answer, or of the fault that ended the run\.\n.*?(?=\.SH )", statuses_of_page),
     (PAGE, r"\.SH LIMITS\n.*?(?=\.SH )", lambda: filled(IN_PAGE)),
+    (MODEL, r"(?<=picks one, at every size:\n\n).*?\n(?=\n)", rule_of_ties),
     (LIMITS_OF_PACKAGE, r"^.*$", of_package),
 )
 
@@ -138,18 +138,6 @@ def write() -> None:
         for template in templates:
             text = re.sub(form_of(template), lambda _: filled(template), text)
         (TOP / name).write_text(text)
-
-
-def faults_of_kinds() -> Iterator[Outcome]:
-    """Whether FORMATS has each row fault with its status, and the man page each kind that a line can name."""
-    formats, page = (TOP / "docs/FORMATS.md").read_text(), PAGE.read_text()
-    for of, kind, status in FAULT.findall(source("tcc_print/src/kinds.rt")):
-        if kind == "NoMemory" or of == "Cert":
-            continue
-        row = re.search(r"^\| %s(?: SESSION)? \|.*\| (\d+) \|$" % kind, formats, re.MULTILINE)
-        right = row is not None and int(row.group(1)) == codes()[status]
-        yield "FORMATS: %s" % kind, None if right else "no row has it with status %d" % codes()[status]
-        yield "man page: %s" % kind, None if re.search(r"\b%s\b" % kind, page) else "isn't named"
 
 
 def faults_of_help() -> Iterator[Outcome]:
@@ -170,14 +158,13 @@ def outcomes() -> Iterator[Outcome]:
         for template in templates:
             fault = None if filled(template) in text else "it has no '%s': tests/docs/told.py --write" % filled(template)
             yield "%s: '%s..'" % (path, template[:40]), fault
-    yield from faults_of_kinds()
     yield from faults_of_help()
     count = len(README.read_text().split())
     yield "words of README", None if count <= MOST_WORDS else "%d, and %d are allowed" % (count, MOST_WORDS)
 
 
 def main() -> int:
-    return status_of_written("What the documents say about statuses and limits, from the sources.", write, outcomes)
+    return status_of_written("What the documents say about statuses, limits and ties, from the sources.", write, outcomes)
 
 
 if __name__ == "__main__":

@@ -5,6 +5,8 @@ wherever a least one has three at most.
 
     run.py [--tcc PATH] [--stages PATH] [--kinds KIND ..] [--sizes N ..] [--count N] [--seed N]
 
+`tcc explain` is asked for a certificate: by its tables a small history has its own way to the answer.
+
 The histories are those of bench/histories.py, by default of 255 and 1,023 transactions, each at both levels. `tcc_bench_stages` decides
 them as large ones (`large-answer`). The line before the last says of how many anomalies the cycle found has as few steps
 as the least: of those sizes it has to be all, of others it may be fewer.
@@ -20,6 +22,7 @@ Each difference is one line; the last line is `N passed, M failed`.
 """
 import argparse
 import json
+import os
 import pathlib
 import random
 import subprocess
@@ -43,6 +46,8 @@ FIRST_STEPS = 3
 # another part anomalies of at least so many steps.
 COUNT = 2000
 ANOMALIES, DEAR, DEAR_STEPS = 0.5, 0.01, 5
+# Without a certificate a small history is answered as a large one is.
+AS_SMALL = ["--certificate", os.devnull]
 
 
 def printed(words, history):
@@ -64,7 +69,7 @@ def numbers_of(labels):
 
 def small_answer(tcc, history, level):
     """What `tcc explain` decides: an order's numbers, or how many steps a least cycle has, and what is printed of it."""
-    status, text = printed([tcc, "explain", "--json", "--level", level], history)
+    status, text = printed([tcc, "explain", "--json", "--level", level, *AS_SMALL], history)
     answer = json.loads(text)
     if status == 0:
         return "order", numbers_of(answer["order"])
@@ -91,7 +96,7 @@ def random_differences(tcc, count, seed):
         history = draw(dice, dice.randrange(2, 9), dice.randrange(4, 41))
         records, sessions = drawn.text_of(history), len({one.session for one in history})
         for level in LEVELS:
-            status, small = answered(tcc, [], level, records)
+            status, small = answered(tcc, AS_SMALL, level, records)
             got, large = answered(tcc, ["--large"], level, with_more_sessions(records, "abort"))
             wanted = small.replace(b'"sessions":%d,' % sessions, b'"sessions":%d,' % (sessions + MORE_SESSIONS))
             wrong = first_difference("answer", wanted, large) or (None if status == got else "status %d, and %d as a large one" % (status, got))

@@ -5,7 +5,9 @@
 
 PATH is split into words, so that "env X=1 tcc" will do. Each difference is one line; the last line is `N passed, M failed`.
 README.md says what a case holds. With --workers each run of `explain` gets that number of workers, unless it says one itself, and
-has to do the same as without it. With --searched only those are done that get it and show an anomaly, for which workers search.
+has to do the same as without it. With --searched only those are done that get it and show an anomaly. They get a certificate too,
+where they have none and are within the default limits: for its tables workers search, and without it an answer is found as those of
+large histories are.
 With --checker the runs of `check` alone are done, by the program that has nothing else, called `tcc` by a link.
 """
 import concurrent.futures
@@ -34,8 +36,10 @@ CASES = HERE / "cases"
 CHECKER = str(TOP / "crates/tcc_checker/out/tcc_checker")
 NEEDED = {"about", "arguments", "status"}
 FIELDS = NEEDED | {"input", "input_from", "typed", "cut", "closed", "files", "output", "output_to", "taken", "errors",
-                   "errors_to", "watched", "certificate", "checked", "slice", "explained", "seconds"}
+                   "errors_to", "watched", "certificate", "checked", "slice", "explained", "seconds", "large"}
 COMMAND_LINE = 64
+# With these a run has a certificate already, takes none, or may find its answer without the tables of one.
+WITHOUT_TABLES = {"--certificate", "--full", "--large"}
 # What a rule may name beside the names of the parts around it: the limits of an input among them.
 COMMON = {"__builtins__": {}, "min": min, "max": max, **limits()}
 
@@ -130,6 +134,16 @@ def runs(case):
                 yield " (cut after %d bytes)" % n, {**whole, "cut": n}
         else:
             yield which, whole
+        if "large" in whole:
+            yield which + " (large)", enlarged(whole, **whole["large"])
+
+
+def enlarged(run, more, **others):
+    """The run with `--large`, on its history with more records after it; where it wants something else, with that."""
+    command, *words = run["arguments"]
+    files = {name: parts + more for name, parts in run["files"].items()}
+    history = {"files": files, "input": run["input"] + more} if "input" in run else {"files": files}
+    return {**run, "arguments": [command, "--large", *words], **history, **others}
 
 
 def argument(word, folder):
@@ -222,21 +236,22 @@ def seen_on(screen):
 
 
 def is_searched(run):
-    """Whether the run shows an anomaly, so that workers search for one of least cost."""
+    """Whether the run shows an anomaly, so that workers search for one of least cost where its certificate is wanted."""
     wanted = run.get("output", [])
     return wanted != "some" and b"anomaly" in text(wanted)
 
 
 def by_workers(run, workers, searched):
-    """The run by this many workers, where it is an explanation and doesn't say the number itself; else as it is. None where
-    searches alone are wanted and it is none."""
+    """The run by this many workers, where it is an explanation and doesn't say the number itself; else as it is. Where searches alone are
+    wanted, it is None if it is none, and else has a certificate."""
     command, *others = run["arguments"] or [""]
-    says = {word.split("=")[0] for word in others if isinstance(word, str)} & {"--workers", "--help", "-h"}
-    if command != "explain" or says or run["status"] == COMMAND_LINE:
+    says = {word.split("=")[0] for word in others if isinstance(word, str)}
+    if command != "explain" or says & {"--workers", "--help", "-h"} or run["status"] == COMMAND_LINE:
         return None if searched else run
     if searched and not is_searched(run):
         return None
-    return {**run, "arguments": [command, "--workers", str(workers), *others]}
+    certificate = ["--certificate", os.devnull] if searched and not says & WITHOUT_TABLES else []
+    return {**run, "arguments": [command, "--workers", str(workers), *certificate, *others]}
 
 
 def of_check(run):

@@ -7,10 +7,11 @@ The input has 100 seals. First writes go from session to session, each answered 
 gone by the first of these writes, over a chain of 18 reads: an anomaly of 20 steps. Readers at earlier positions of the chain make
 it cheaper by one step each, down to 3, and each such answer is followed by four more. These are at a seal with nothing new, at one
 where a read can't be traced, and at one where it can. The last is at one after a session that sorts first, so that all transactions
-have other numbers. Both levels, 1, 2 and 32 workers.
+have other numbers. Both levels; with a certificate, whose tables are searched anew at each seal, 1, 2 and 32 workers; and without.
 
 Each difference is one line; the last line is `N passed, M failed`.
 """
+import os
 import pathlib
 import subprocess
 import sys
@@ -96,8 +97,8 @@ def outcomes(tcc, sealed):
         texts, status = alone(tcc, level, sealed)
         if level == "causal":
             yield from (("alone", wrong) for wrong in beginnings(texts, sealed))
-        for workers in WORKERS:
-            options = ["--level", level, "--workers", workers]
+        for more in ([], *(["--workers", workers, "--certificate", os.devnull] for workers in WORKERS)):
+            options = ["--level", level, *more]
             got, status_got = explained(tcc, options, whole)
             which = " ".join(options)
             yield from ((which, wrong) for wrong in differences(got, texts))

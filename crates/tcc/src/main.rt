@@ -12,10 +12,11 @@ use std::thread::{self, Threads};
 use std::time::Clock;
 use tcc_base::Workers;
 use tcc_cli::{
-    Apart, Quiet, RecordInput, Request, Telling, VERSION, are_waited_for, check_files, exit_code,
-    is_waited_for, open_both, open_input, open_output, open_outputs, print_unopened, read, size_of,
+    ErrorReporter, OutputFile, Quiet, RecordInput, Request, VERSION, are_waited_for, check_files,
+    exit_code, is_waited_for, open_both, open_input, open_output, open_outputs, print_unopened,
+    read, size_of,
 };
-use tcc_full::{Asked, Limits, RunContext, run_full, tell_unread};
+use tcc_full::{Limits, ReportOptions, RunContext, run_full, tell_unread};
 use tcc_run::{OpenGate, Options, run_explain, run_large};
 use tcc_survey_run::{SurveyOptions, run_survey, run_survey_watched};
 use tcc_verdict::run_check_large_watched;
@@ -39,9 +40,9 @@ fn run_shown<W: Write>(
     rt: &HostRuntime,
     threads: &(impl Threads + Wait + Clock + Sync),
     options: Options,
-    input: Telling<'_, RecordInput>,
-    certificate: Option<Telling<'_, Apart>>,
-    slice: Option<Telling<'_, Apart>>,
+    input: ErrorReporter<'_, RecordInput>,
+    certificate: Option<ErrorReporter<'_, OutputFile>>,
+    slice: Option<ErrorReporter<'_, OutputFile>>,
     out: &mut W,
 ) -> u8 {
     let mut certificate = certificate;
@@ -76,7 +77,7 @@ fn explain_large<W: Write>(
     rt: &HostRuntime,
     threads: &(impl Threads + Wait + Clock + Sync),
     options: Options,
-    input: Telling<'_, RecordInput>,
+    input: ErrorReporter<'_, RecordInput>,
     paths: Paths<'_>,
     out: &mut W,
 ) -> u8 {
@@ -95,7 +96,7 @@ fn explain<W: Write>(
     rt: &HostRuntime,
     threads: &(impl Threads + Wait + Clock + Sync),
     options: Options,
-    input: Telling<'_, RecordInput>,
+    input: ErrorReporter<'_, RecordInput>,
     certificate: Option<&str>,
     out: &mut W,
 ) -> u8 {
@@ -128,7 +129,7 @@ fn explain_full<W: Write>(
     history: Option<&str>,
     out: &mut W,
 ) -> u8 {
-    let asked = Asked {
+    let asked = ReportOptions {
         version: VERSION,
         level: options.level,
         limits: if large { Limits::Large } else { Limits::Small },
@@ -187,7 +188,7 @@ fn survey_shown<W: Write>(
     rt: &HostRuntime,
     threads: &(impl Threads + Wait + Clock + Sync),
     options: SurveyOptions,
-    input: Telling<'_, RecordInput>,
+    input: ErrorReporter<'_, RecordInput>,
     out: &mut W,
 ) -> u8 {
     let is_shown = is_waited_for(rt, input.stream());
@@ -288,7 +289,7 @@ fn check_large<W: Write>(
 }
 
 fn main(rt: HostRuntime) -> ExitCode {
-    let told = Telling::new(rt.stdout(), "standard output", rt.stderr());
+    let told = ErrorReporter::new(rt.stdout(), "standard output", rt.stderr());
     let mut out = Quiet::new(told);
     let code = match read(&rt, &mut out) {
         Ok(

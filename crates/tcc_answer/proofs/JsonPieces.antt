@@ -1,15 +1,15 @@
 -- A text of JSON is its pieces, one after the other.
-use Rattle.std.proofs.Common.{◌≡◌, ℕ, Bool, List, [], ◌∷◌, ◌++◌, ◌∙◌, sym, ap, false, true, map, flat_map, refl, codes, decimal, append_assoc}
+use Rattle.std.proofs.Common.{◌≡◌, ℕ, List, [], ◌∷◌, ◌++◌, ◌∙◌, sym, ap, false, true, map, flat_map, refl, codes, decimal, append_assoc}
 use Rattle.serde_json.proofs.OnLiterals.{serde_json_on_literals}
 use Rattle.serde_json.specs.Data.{Data}
 use Rattle.serde_json.specs.View.{items_of}
 use Rattle.serde_json.specs.Written.{compact_text, items_text}
-use Rattle.std.specs.Prelude.{if◌then◌else◌}
 use Rattle.tcc_graph.specs.Links.{cost, link_from, link_to}
 use Rattle.tcc_graph.specs.declared.step.Step.{Step}
 use Rattle.tcc_graph.specs.declared.link.Link.{Link}
 use Rattle.tcc_graph.specs.declared.link.Link.TheVariants as link
-use Rattle.tcc_answer.specs.Json.{anomaly_json, json_line, link_json, step_json, word_text}
+use Rattle.tcc_answer.specs.Answers.{LabelledCycle}
+use Rattle.tcc_answer.specs.Json.{cycle_json, json_line, link_json, step_json, word_text}
 use Rattle.tcc_answer.specs.Shapes.{shape_of}
 use Rattle.tcc_answer.specs.Texts.{shape_word}
 use Rattle.tcc_answer.specs.private.Pieces.{derived_head, later_item}
@@ -51,35 +51,28 @@ derived_behind labels one from to key reader walk is start end starts ends old b
     ∙ ap (λ text. old ++ text) (sym (derived_object labels from to key reader walk))
     ∙ ap (λ l. old ++ compact_text (link_json labels l)) (sym is)
 
--- what a cycle's line has between its links and its shape
-abbrev unproved : Bool → List ℕ
-unproved least = if least then [] else codes ",\"least\":false"
-
 -- a cycle
-anomaly_object : (least : Bool) (labels : List (List ℕ)) (links : List Link) → compact_text (anomaly_json least labels links)
+cycle_object : (c : LabelledCycle) → compact_text (cycle_json c)
     ≡ codes "{\"answer\":\"anomaly\",\"cycle\":["
-    ++ (items_text false (items_of (map (link_json labels) links))
-    ++ (unproved least
-    ++ (codes ",\"shape\":" ++ (word_text (shape_word (shape_of links)) ++ (codes ",\"steps\":" ++ (decimal (cost links) ++ codes "}"))))))
+    ++ (items_text false (items_of (map (link_json c.labels) c.links))
+    ++ (codes ",\"shape\":" ++ (word_text (shape_word (shape_of c.links)) ++ (codes ",\"steps\":" ++ (decimal (cost c.links) ++ codes "}")))))
 unfolding serde_json_on_literals word_text
-anomaly_object true labels links = refl
-anomaly_object false labels links = refl
+cycle_object c = refl
 
 -- its pieces and a line feed
-with_feed : (items least word steps : List ℕ)
+with_feed : (items word steps : List ℕ)
     → (codes "{\"answer\":\"anomaly\",\"cycle\":["
-    ++ (items ++ (least ++ (codes ",\"shape\":" ++ (word ++ (codes ",\"steps\":" ++ (steps ++ codes "}")))))))
+    ++ (items ++ (codes ",\"shape\":" ++ (word ++ (codes ",\"steps\":" ++ (steps ++ codes "}"))))))
     ++ codes "\n"
     ≡ codes "{\"answer\":\"anomaly\",\"cycle\":["
-    ++ (items ++ (least ++ (codes ",\"shape\":" ++ (word ++ (codes ",\"steps\":" ++ (steps ++ codes "}\n"))))))
-with_feed items least word steps = simp append_assoc refl
+    ++ (items ++ (codes ",\"shape\":" ++ (word ++ (codes ",\"steps\":" ++ (steps ++ codes "}\n")))))
+with_feed items word steps = simp append_assoc refl
 
 -- the line of a cycle
-pub anomaly_line : (least : Bool) (labels : List (List ℕ)) (links : List Link) → json_line (anomaly_json least labels links)
+pub line_of_cycle : (c : LabelledCycle) → json_line (cycle_json c)
     ≡ codes "{\"answer\":\"anomaly\",\"cycle\":["
-    ++ (items_text false (items_of (map (link_json labels) links))
-    ++ (unproved least
-    ++ (codes ",\"shape\":" ++ (word_text (shape_word (shape_of links)) ++ (codes ",\"steps\":" ++ (decimal (cost links) ++ codes "}\n"))))))
-anomaly_line least labels links =
-    ap (λ text. text ++ codes "\n") (anomaly_object least labels links)
-    ∙ with_feed (items_text false (items_of (map (link_json labels) links))) (unproved least) (word_text (shape_word (shape_of links))) (decimal (cost links))
+    ++ (items_text false (items_of (map (link_json c.labels) c.links))
+    ++ (codes ",\"shape\":" ++ (word_text (shape_word (shape_of c.links)) ++ (codes ",\"steps\":" ++ (decimal (cost c.links) ++ codes "}\n")))))
+line_of_cycle c =
+    ap (λ text. text ++ codes "\n") (cycle_object c)
+    ∙ with_feed (items_text false (items_of (map (link_json c.labels) c.links))) (word_text (shape_word (shape_of c.links))) (decimal (cost c.links))

@@ -1,6 +1,6 @@
 -- The JSON of an answer: one line with the compact text of one object, whose keys are in byte order.
-use Rattle.std.specs.Prelude.{ℕ, ◌-◌, Bool, true, false, List, ◌++◌, length, map, codes, if◌then◌else◌}
-use Rattle.serde_json.specs.Data.{Data, Members, boolean, number, unsigned, string, array, object, no_members, member}
+use Rattle.std.specs.Prelude.{ℕ, ◌-◌, List, ◌++◌, length, map, codes}
+use Rattle.serde_json.specs.Data.{Data, number, unsigned, string, array, object, no_members, member}
 use Rattle.serde_json.specs.View.{items_of}
 use Rattle.serde_json.specs.Written.{compact_text}
 use Rattle.tcc_graph.specs.Links.{cost}
@@ -53,22 +53,13 @@ link_json labels (link.Derived b a key c walk) = object
     (member (codes "walk") (array (items_of (map (step_json labels) walk)))
     no_members))))))
 
--- where it isn't proved that no cycle has fewer steps, that is said before other members
-abbrev pub least_before : Bool → Members → Members
-least_before least others = if least then others else member (codes "least") (boolean false) others
-
-abbrev pub anomaly_json : Bool → List (List ℕ) → List Link → Data
-anomaly_json least labels links = object
-    (member (codes "answer") (string (codes "anomaly"))
-    (member (codes "cycle") (array (items_of (map (link_json labels) links)))
-    (least_before least
-    (member (codes "shape") (string (shape_word (shape_of links)))
-    (member (codes "steps") (number (unsigned (cost links)))
-    no_members)))))
-
--- a least cycle
 abbrev pub cycle_json : LabelledCycle → Data
-cycle_json c = anomaly_json true c.labels c.links
+cycle_json c = object
+    (member (codes "answer") (string (codes "anomaly"))
+    (member (codes "cycle") (array (items_of (map (link_json c.labels) c.links)))
+    (member (codes "shape") (string (shape_word (shape_of c.links)))
+    (member (codes "steps") (number (unsigned (cost c.links)))
+    no_members))))
 
 abbrev pub answer_json : Answer → Data
 answer_json (answer.Commit o) = order_json o

@@ -1,5 +1,5 @@
 -- The text of an answer, as it is written: ASCII, each line ended by one line feed.
-use Rattle.std.specs.Prelude.{ℕ, ◌-◌, Bool, true, List, [], ◌++◌, length, flat_map, codes, decimal, if◌then◌else◌}
+use Rattle.std.specs.Prelude.{ℕ, ◌-◌, List, ◌++◌, length, flat_map, codes, decimal}
 use Rattle.tcc_graph.specs.Links.{cost}
 use Rattle.tcc_graph.specs.declared.step.Step.{Step}
 use Rattle.tcc_graph.specs.declared.step.Step.TheVariants as step
@@ -59,17 +59,12 @@ link_text labels (link.Derived b a key c walk) =
     ++ (walk_text labels walk
     ++ (codes "  against " ++ read_text labels a c key))))))))
 
--- how many steps the links have together, every use counted, the shape, whether it isn't proved that no cycle has fewer
--- steps, and the links
-abbrev pub anomaly_text : Bool → List (List ℕ) → List Link → List ℕ
-anomaly_text least labels links =
-    codes "anomaly: "
-    ++ (decimal (cost links) ++ (codes " steps, "
-    ++ (shape_word (shape_of links) ++ ((if least then [] else codes ", least not proved") ++ (codes "\n" ++ flat_map (link_text labels) links)))))
-
--- a least cycle
+-- how many steps the links have together, every use counted, the shape, and the links
 abbrev pub cycle_text : LabelledCycle → List ℕ
-cycle_text c = anomaly_text true c.labels c.links
+cycle_text c =
+    codes "anomaly: "
+    ++ (decimal (cost c.links) ++ (codes " steps, "
+    ++ (shape_word (shape_of c.links) ++ (codes "\n" ++ flat_map (link_text c.labels) c.links))))
 
 abbrev pub answer_text : Answer → List ℕ
 answer_text (answer.Commit o) = order_text o

@@ -1,5 +1,5 @@
 //! Answers: a commit order, or an anomaly, each with its certificate.
-ghost use Rattle.std.specs.Prelude.{◌≡◌, [], ℕ, OnErr, OnOk, take, true};
+ghost use Rattle.std.specs.Prelude.{◌≡◌, [], ℕ, OnErr, OnOk, take};
 ghost use Rattle.std.specs.Io.KnownBytes.{Appends};
 ghost use Rattle.tcc_graph.specs.Links.{cost};
 ghost use Rattle.tcc_cert.specs.declared.certificate.Certificate.TheVariants as claim;
@@ -8,7 +8,6 @@ ghost use Rattle.tcc_answer.specs.Shapes.{shape_of};
 ghost use Rattle.tcc_answer.specs.Claims.{certificate_of, cycle_claim, order_claim};
 
 use crate::CappedRows;
-use crate::cycle::Cycle;
 use crate::shape::{Shape, shape_of};
 use std::alloc::Global;
 use std::io::Write;
@@ -206,20 +205,6 @@ impl Anomaly {
         ensures { result.now ≡ self.now.labels }
     {
         &self.labels
-    }
-
-    /// The cycle as it is reported; none has fewer steps.
-    pub(crate) fn cycle(&self) -> Cycle<'_>
-        ensures labels { result.labels.now ≡ self.now.labels }
-        ensures links { result.links.now ≡ self.now.links }
-        ensures least { result.least ≡ true }
-    {
-        Cycle {
-            labels: self.labels(),
-            links: self.links(),
-            steps: self.steps as usize,
-            least: true,
-        }
     }
 
     /// The least lengths of walks, capped at the cost of the cycle.

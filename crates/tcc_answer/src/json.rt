@@ -5,13 +5,13 @@ ghost use Rattle.serde_json.specs.Data.{array};
 ghost use Rattle.serde_json.specs.View.{view, items_of};
 ghost use Rattle.serde_json.specs.Written.{has_float};
 ghost use Rattle.tcc_answer.specs.declared.fault.WriteFault.TheVariants as fault;
-ghost use Rattle.tcc_answer.specs.Json.{label_json, order_json, anomaly_json, answer_json, json_line};
+ghost use Rattle.tcc_answer.specs.Json.{label_json, order_json, cycle_json, answer_json, json_line};
 
 use crate::links_json::quoted;
-use crate::pieces::{joined, push, push_objects, unless};
+use crate::pieces::{joined, push, push_objects};
 use crate::text::shape_word;
 use crate::values::{Values, list_json};
-use crate::{Answer, Commit, Cycle, WriteFault, shape_of};
+use crate::{Anomaly, Answer, Commit, WriteFault};
 use serde_json::{Value, json};
 use std::alloc::{AllocError, Global};
 use std::io::Write;
@@ -62,19 +62,17 @@ fn commit_line(alloc: Global, commit: &Commit) -> Result<Vec<u8>, NoMemory>
 }
 
 /// The text of the object of a cycle, and a line feed.
-pub fn cycle_line(alloc: Global, cycle: &Cycle) -> Result<Vec<u8>, NoMemory>
-    ensures { IfOk result (λ line. line.items ≡ json_line (anomaly_json cycle.now.least cycle.now.labels.now cycle.now.links.now)) }
+fn cycle_line(alloc: Global, anomaly: &Anomaly) -> Result<Vec<u8>, NoMemory>
+    ensures { IfOk result (λ line. line.items ≡ json_line (cycle_json anomaly.now)) }
 {
-    let shape = quoted(alloc, shape_word(shape_of(cycle.links)))?;
-    let steps = cycle.steps.to_string(alloc)?;
-    let unproved = unless(cycle.least, b",\"least\":false");
+    let shape = quoted(alloc, shape_word(anomaly.shape()))?;
+    let steps = anomaly.cost().to_string(alloc)?;
     let mut line = Vec::new(alloc);
     push(&mut line, &[b"{\"answer\":\"anomaly\",\"cycle\":["])?;
-    push_objects(alloc, &mut line, cycle.labels, cycle.links)?;
+    push_objects(alloc, &mut line, anomaly.labels(), anomaly.links())?;
     push(
         &mut line,
         &[
-            unproved,
             b",\"shape\":",
             shape.as_bytes(),
             b",\"steps\":",
@@ -91,7 +89,7 @@ fn json_line(alloc: Global, answer: &Answer) -> Result<Vec<u8>, NoMemory>
 {
     match answer {
         Answer::Commit(commit) => commit_line(alloc, commit),
-        Answer::Anomaly(anomaly) => cycle_line(alloc, &anomaly.cycle()),
+        Answer::Anomaly(anomaly) => cycle_line(alloc, anomaly),
     }
 }
 

@@ -4,7 +4,6 @@
 mod answer;
 mod capped;
 mod copying;
-mod cycle;
 mod fault;
 mod json;
 mod links_json;
@@ -15,11 +14,10 @@ mod values;
 
 pub use answer::{Anomaly, Answer, Commit};
 pub use capped::CappedRows;
-pub use cycle::Cycle;
 pub use fault::WriteFault;
-pub use json::{cycle_line, labels_json, object_line, write_json};
+pub use json::{labels_json, object_line, write_json};
 pub use links_json::{push_links_json, quoted};
 pub use shape::{Shape, shape_of};
 pub use tcc_graph::Labels;
-pub use text::{cycle_text, push_links, shape_word, write_text};
+pub use text::{push_links, shape_word, write_text};
 pub use values::{Values, list_json};

@@ -1,5 +1,5 @@
 //! Texts that grow by pieces.
-ghost use Rattle.std.specs.Prelude.{◌≡◌, ◌++◌, [], IfOk, OnOk, false, flat_map, if◌then◌else◌, map};
+ghost use Rattle.std.specs.Prelude.{◌≡◌, ◌++◌, IfOk, OnOk, false, flat_map, map};
 ghost use Rattle.serde_json.specs.View.{items_of, view};
 ghost use Rattle.serde_json.specs.Written.{compact_text, has_float, items_text};
 ghost use Rattle.tcc_answer.specs.private.Pieces.{later_item};
@@ -25,13 +25,6 @@ pub fn joined(alloc: Global, pieces: &[&[u8]]) -> Result<Vec<u8>, NoMemory>
     let mut text = Vec::new(alloc);
     push(&mut text, pieces)?;
     Ok(text)
-}
-
-/// The piece, unless this holds.
-pub(crate) fn unless(holds: bool, piece: &'static [u8]) -> &'static [u8]
-    ensures { result.now ≡ (if holds then [] else piece.now) }
-{
-    if holds { b"" } else { piece }
 }
 
 /// Adds the text of a value without floats.

@@ -3,10 +3,10 @@ ghost use Rattle.std.specs.Prelude.{◌≡◌, ◌++◌, ℕ, OnOk, IfOk, OnErr,
 ghost use Rattle.std.specs.Io.KnownBytes.{Appends};
 ghost use Rattle.tcc_graph.specs.declared.step.Step.TheVariants as step;
 ghost use Rattle.tcc_answer.specs.declared.fault.WriteFault.TheVariants as fault;
-ghost use Rattle.tcc_answer.specs.Texts.{labels_text, order_text, pair_text, read_text, step_text, walk_text, link_text, shape_word, anomaly_text, answer_text};
+ghost use Rattle.tcc_answer.specs.Texts.{labels_text, order_text, pair_text, read_text, step_text, walk_text, link_text, shape_word, cycle_text, answer_text};
 
-use crate::pieces::{joined, push, unless};
-use crate::{Answer, Commit, Cycle, Shape, WriteFault, shape_of};
+use crate::pieces::{joined, push};
+use crate::{Anomaly, Answer, Commit, Shape, WriteFault};
 use std::alloc::Global;
 use std::io::Write;
 use tcc_base::send;
@@ -148,24 +148,16 @@ pub fn shape_word(shape: Shape) -> &'static str
 }
 
 /// The text of a cycle.
-pub fn cycle_text(alloc: Global, cycle: &Cycle) -> Result<Vec<u8>, NoMemory>
-    ensures { IfOk result (λ text. text.items ≡ anomaly_text cycle.now.least cycle.now.labels.now cycle.now.links.now) }
+fn cycle_text(alloc: Global, anomaly: &Anomaly) -> Result<Vec<u8>, NoMemory>
+    ensures { IfOk result (λ text. text.items ≡ cycle_text anomaly.now) }
 {
-    let steps = cycle.steps.to_string(alloc)?;
-    let shape = shape_word(shape_of(cycle.links)).as_bytes();
-    let unproved = unless(cycle.least, b", least not proved");
+    let steps = anomaly.cost().to_string(alloc)?;
+    let shape = shape_word(anomaly.shape()).as_bytes();
     let mut text = joined(
         alloc,
-        &[
-            b"anomaly: ",
-            steps.as_bytes(),
-            b" steps, ",
-            shape,
-            unproved,
-            b"\n",
-        ],
+        &[b"anomaly: ", steps.as_bytes(), b" steps, ", shape, b"\n"],
     )?;
-    push_links(&mut text, cycle.labels, cycle.links)?;
+    push_links(&mut text, anomaly.labels(), anomaly.links())?;
     Ok(text)
 }
 
@@ -174,7 +166,7 @@ fn text_of(alloc: Global, answer: &Answer) -> Result<Vec<u8>, NoMemory>
 {
     match answer {
         Answer::Commit(commit) => commit_text(alloc, commit),
-        Answer::Anomaly(anomaly) => cycle_text(alloc, &anomaly.cycle()),
+        Answer::Anomaly(anomaly) => cycle_text(alloc, anomaly),
     }
 }
 

@@ -1,4 +1,4 @@
--- What is answered for a snapshot of any size at a level.
+-- The answer for a snapshot of any size at a level.
 use Rattle.std.specs.Prelude.{Bool, true, ◌≡◌, ◌≢◌, []}
 use Rattle.tcc_txn.specs.Finished.{KeepsLimits}
 use Rattle.tcc_txn.specs.Snapshots.{Sessions}
@@ -11,8 +11,8 @@ use Rattle.tcc_answering.specs.Firsts.{IsFirst}
 use Rattle.tcc_answering.specs.declared.answering.Answered.{Answered}
 use Rattle.tcc_answering.specs.declared.answering.Answered.TheVariants as answered
 
--- all its read faults, where it has some; within the small limits, where its certificate is wanted, the first answer of its history, with
--- what that needs; else its history, and its first commit order or the first of its least cycles
+-- all its read faults, where it has some. Within the small limits, where its certificate is wanted: the first answer of its history, with
+-- what that needs. Else: its history, and its first commit order or the first of its least cycles
 abbrev pub IsAnswered : Bool → Level → Sessions → Answered → Type 0
 IsAnswered is_certified level s (answered.Unresolved faults) = (read_faults s ≢ []) × (faults.items ≡ read_faults s)
 IsAnswered is_certified level s (answered.Tabled a) =

@@ -1,5 +1,5 @@
-//! What is answered for a snapshot at a level: here it is decided whether it goes by the tables of a small one, which its certificate
-//! needs, or by the searches of a large one.
+//! The answer for a snapshot at a level. Here it is decided whether it is found by the tables of a small one, which its certificate needs,
+//! or by the searches of a large one.
 ghost use Rattle.std.specs.Prelude.{[], true, false, ◌≡◌, IfOk, MatchResult};
 ghost use Rattle.tcc_txn.specs.Finished.{KeepsLimits};
 ghost use Rattle.tcc_reads.specs.{Faults.read_faults, Refusals.IsRefusal, Sources.history};
@@ -18,15 +18,15 @@ use tcc_txn::{
     Bounds, LargeLimits, LargeSnapshot, NoMemory, SmallLimits, Snapshot, SnapshotWithin,
 };
 
-/// What is answered for a snapshot.
+/// The answer for a snapshot.
 #[derive(Drop)]
 pub enum Answered {
     /// All its read faults.
     Unresolved(Vec<ReadFault>),
     /// Within the small limits, where its certificate is wanted: its first answer with all that the certificate needs.
     Tabled(Answer),
-    /// Else: its graph, and its first commit order or the first of its least cycles. With a cycle of four steps or more an order of all
-    /// transactions may come, to judge by. Nobody has to trust it.
+    /// Else: its graph, and its first commit order or the first of its least cycles. With a cycle of at least four steps an order of all
+    /// transactions may come, to judge by. It need not be trusted.
     Bare {
         graph: LargeGraph,
         first: First,
@@ -34,18 +34,18 @@ pub enum Answered {
     },
 }
 
-/// A snapshot as one within the small limits.
+/// A snapshot seen as one within the small limits.
 #[derive(Drop)]
 pub enum AsSmall<'a> {
-    /// It has their type.
+    /// It has their type already.
     Lent(&'a Snapshot),
     /// A copy of a large one.
     Copied(Snapshot),
-    /// It is past them.
+    /// It is above them.
     Past,
 }
 
-/// Stands for limits of snapshots that are answered: how one is resolved, and what it is within the small limits.
+/// Limits of snapshots that can be answered: how a snapshot is resolved, and what it is within the small limits.
 pub trait AnsweredBounds: Bounds {
     ghost use Rattle.std.specs.Prelude.{[], ◌≡◌, IfOk, MatchResult};
     ghost use Rattle.tcc_reads.specs.{Faults.read_faults, Refusals.IsRefusal, Sources.history};
@@ -91,7 +91,7 @@ impl AnsweredBounds for LargeLimits {
     }
 }
 
-/// What is answered for a snapshot within the small limits whose certificate is wanted, by the workers and the gate of a run.
+/// The answer for a snapshot within the small limits whose certificate is wanted, by the workers and the gate of a run.
 fn tabled<T: Threads + Sync, G: Gate>(
     run: &RunContext<T, G>,
     snapshot: &Snapshot,
@@ -121,7 +121,7 @@ fn graph_of<B: AnsweredBounds>(
     Ok(LargeGraph::build(alloc, resolved)?)
 }
 
-/// What is answered for a snapshot without tables, by the workers of a run.
+/// The answer for a snapshot without tables, by the workers of a run.
 fn bare<T: Threads + Sync, G: Gate, B: AnsweredBounds>(
     run: &RunContext<T, G>,
     snapshot: &SnapshotWithin<B>,
@@ -145,8 +145,8 @@ fn bare<T: Threads + Sync, G: Gate, B: AnsweredBounds>(
     })
 }
 
-/// What is answered for a snapshot within either limits, by the workers of the run: with its tables only where a certificate is wanted
-/// and it is within the small limits.
+/// The answer for a snapshot within either limits, by the workers of the run: with its tables only where a certificate is wanted and it is
+/// within the small limits.
 pub fn answer<T: Threads + Sync, G: Gate, B: AnsweredBounds>(
     run: &RunContext<T, G>,
     snapshot: &SnapshotWithin<B>,

@@ -1,5 +1,5 @@
-//! What is answered for a history of any size, from what was decided of it: the first commit order, or the first of the least cycles. Up to
-//! three steps the decision has it already; past that it is looked for by the searches of the judge, by an order that nobody has to trust.
+//! The answer for a history of any size, from what was decided about it: the first commit order, or the first of the least cycles. Up to
+//! three steps the decision has this cycle already. Above that the searches of the judge look for it, by an order that need not be trusted.
 ghost use Rattle.std.specs.Prelude.{◌<◌, ◌+◌, ℕ, IfOk};
 ghost use Rattle.tcc_graph.specs.{Levels.judged, Links.cost, Routes.AreCycle, Ties.IsFirstCycle};
 ghost use Rattle.tcc_least.specs.Shapes.{NoneBelow};
@@ -15,7 +15,7 @@ use tcc_judge::first_around;
 use tcc_large::Decision;
 use tcc_txn::NoMemory;
 
-/// What is answered for a history of any size.
+/// The answer for a history of any size.
 #[derive(Drop)]
 pub enum First {
     /// The numbers of all transactions in the first commit order.
@@ -24,7 +24,7 @@ pub enum First {
     Cycle(Vec<Link>),
 }
 
-/// The links of the first of the least cycles, where some cycle costs so many steps at most, and none fewer than four.
+/// The links of the first of the least cycles, where some cycle costs at most `most` steps, and none fewer than four.
 fn first_links(
     alloc: Global,
     graph: &LargeGraph,
@@ -69,9 +69,9 @@ fn first_cycle(
     Ok(first)
 }
 
-/// What is answered for a history: its first commit order, or the first of its least cycles by the rule of ties, whatever was decided of
-/// it. With an order of all transactions that keeps all pairs the cycle is looked for near to what it contradicts, and with another or
-/// none at all transactions, which takes longer. Nobody has to trust the order.
+/// The answer for a history: its first commit order, or the first of its least cycles by the rule of ties, whatever was decided about it.
+/// With an order of all transactions that keeps all pairs, the cycle is looked for near to what the order contradicts. With another order,
+/// or with none, it is looked for at all transactions, which takes longer. The order need not be trusted.
 pub fn first_of(
     alloc: Global,
     graph: &LargeGraph,

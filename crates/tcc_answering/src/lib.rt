@@ -1,5 +1,5 @@
-//! The one answer of a snapshot: all its read faults; or its first commit order or the first of its least cycles. It comes with the
-//! tables of its certificate where that is wanted and the snapshot is within the small limits, else with its graph. And the claim
+//! The one answer for a snapshot: all its read faults; or its first commit order or the first of its least cycles. It comes with the tables
+//! of its certificate where that is wanted and the snapshot is within the small limits, else with its graph. The crate also has the claim
 //! that a cycle is a least one, where the judge of certificates accepts it.
 #![tactic(auto)]
 

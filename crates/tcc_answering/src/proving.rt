@@ -1,5 +1,5 @@
-//! Whether a cycle of more than four steps is a least one. An order comes with it, which nobody has to trust: the claim that the cycle
-//! is a least one, with the runs of that order, goes to the judge of certificates, and is made where it accepts.
+//! Whether a cycle of more than four steps is a least one. An order comes with it, which need not be trusted. The judge of certificates is
+//! given the claim that the cycle is a least one, with the runs of that order, and the claim is made where it accepts.
 ghost use Rattle.std.specs.Prelude.{◌≡◌, IfOk, IfSome, IsTrue, List, Some};
 ghost use Rattle.tcc_cert.specs.{LargeTexts.HaveRunsText, declared.large.Run.Run};
 ghost use Rattle.tcc_judge.specs.{Claims.links_claim_of, Verdicts.cycle_rules};
@@ -58,7 +58,7 @@ pub fn proved_claim(
         × HaveRunsText runs × AllHold (cycle_rules graph.now claim))) }
 {
     let claim = claim_with(alloc, graph, level, links, order)?;
-    // Of more steps the judge decides nothing.
+    // The judge decides nothing about cycles of more steps.
     if claim.cost > MOST_STEPS || !has_room(&claim) {
         return Ok(None);
     }

@@ -1,4 +1,4 @@
--- What is said of a call that failed.
+-- What a contract says of a call that failed.
 use Rattle.std.proofs.Common.{Result, Ok, Err}
 use Rattle.std.specs.Result.{OnErr}
 

@@ -1,4 +1,5 @@
-//! What programs need beside histories: how a text is written, how many workers search, and who is told how far a call is.
+//! What programs need beside histories: how a text is written, how many workers search, and who receives the progress of a
+//! call.
 #![tactic(auto)]
 
 mod progress;

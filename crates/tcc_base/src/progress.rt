@@ -1,11 +1,11 @@
-//! Who is told how far a call is.
+//! Who receives the progress of a call.
 
-/// Is told, from time to time, how many parts of its work a call has done, of how many. No promise rests on what it does.
+/// Receives, from time to time, how many parts of its work a call has done, of how many. No contract depends on what it does.
 pub trait Progress {
     fn done(&self, count: usize, all: usize);
 }
 
-/// Nobody is told.
+/// Ignores the progress.
 #[derive(Clone, Copy, Drop)]
 pub struct Unwatched;
 

@@ -7,7 +7,7 @@ use std::marker::Model;
 /// The most workers of a search.
 pub const MAX_WORKERS: u32 = 32;
 
-/// How many workers search: at least one, and `MAX_WORKERS` at most.
+/// How many workers search: at least one, and at most `MAX_WORKERS`.
 #[derive(Clone, Copy, Debug, PartialEq, Eq)]
 pub struct Workers {
     count: u32,
@@ -27,10 +27,10 @@ impl Model for Workers {
 }
 
 impl Workers {
-    /// A worker alone.
+    /// One worker.
     pub const ONE: Workers = Workers { count: 1 };
 
-    /// So many workers; none where the number is 0 or past the most.
+    /// This many workers. There is no value of this type where the count is 0 or above `MAX_WORKERS`.
     pub fn new(count: u32) -> Option<Workers>
         ensures taken { IsSome result ↔ ((0 < count) × (count ≤ MAX_WORKERS)) }
         ensures value { IfSome result (λ workers. workers ≡ count) }
@@ -42,7 +42,7 @@ impl Workers {
         }
     }
 
-    /// How many these are.
+    /// How many workers there are.
     pub fn count(self) -> u32
         ensures value { result ≡ self }
         ensures range { (0 < result) × (result ≤ MAX_WORKERS) }

@@ -1,4 +1,4 @@
-//! How long a copy of a book takes, which a seal makes under the lock, beside recording what it copies.
+//! How long a copy of a book takes, which a seal makes under the lock, compared with recording what it copies.
 ghost use Rattle.std.specs.Prelude.{◌≡◌, ◌+◌, IfSome, length};
 
 use std::alloc::{Alloc, Global};
@@ -7,10 +7,10 @@ use std::time::{Clock, Instant};
 use tcc_book::BookState;
 use tcc_txn::{Name, Op, Txn};
 
-/// So many operations a transaction has.
+/// How many operations a transaction has.
 const OPERATIONS: u64 = 8;
 
-/// So many books of each size are filled and copied; the least times are given.
+/// How many books of each size are filled and copied; the least times are reported.
 const BOOKS: u32 = 50;
 
 /// Seconds of filling a book and of copying it, and how many transactions were copied.
@@ -21,7 +21,7 @@ struct Spent {
     copied: usize,
 }
 
-/// A transaction that writes as often as each is to.
+/// A transaction of `OPERATIONS` writes.
 fn transaction(alloc: Global, key: Name) -> Option<Txn> {
     let mut ops = Vec::new(alloc);
     for before in 0..OPERATIONS {
@@ -31,7 +31,7 @@ fn transaction(alloc: Global, key: Name) -> Option<Txn> {
     Txn::new(ops, true).ok()
 }
 
-/// Records the transaction so many times.
+/// Records the transaction `count` times.
 fn fill(alloc: Global, book: &mut BookState, session: &Name, txn: &Txn, count: u32) -> Option<()>
     ensures { IfSome result (λ done. length book.new.journal ≡ length book.old.journal + count) }
 {
@@ -41,7 +41,7 @@ fn fill(alloc: Global, book: &mut BookState, session: &Name, txn: &Txn, count: u
     Some(())
 }
 
-/// Fills a book with so many transactions, and copies it.
+/// Fills a book with `count` transactions, and copies it.
 fn measure<R: Clock + Alloc<A = Global>>(rt: &R, count: u32) -> Option<Spent> {
     let alloc = rt.alloc();
     let session = Name::read(b"a").ok()?;
@@ -73,7 +73,7 @@ fn least<R: Clock + Alloc<A = Global>>(rt: &R, count: u32) -> Option<Spent> {
     Some(least)
 }
 
-/// Fills books with more and more transactions, and copies them: standard output has how many were copied, and standard
+/// Fills books with more and more transactions, and copies them. Standard output has how many were copied, and standard
 /// error the times. None where memory, the clock or an output failed.
 pub fn measure_copies<R: Clock + Print + Eprint + Alloc<A = Global>>(rt: &R) -> Option<()> {
     for count in [500, 1_000, 2_000, 4_000] {

@@ -82,7 +82,7 @@ fn call_in_threads<R: Threads + Sync>(
     seat
 }
 
-// The last word of a bound at which the threads made their calls: as offers come down to 0, it is 0 then.
+// The last word of a bound at which the threads made their calls. Since offers come down to 0, it is then 0.
 fn last_word<R: Threads + Sync>(
     rt: &R,
     bound: Bound,
@@ -113,7 +113,7 @@ fn measure<R: Threads + Clock + Print + Eprint + Alloc<A = Global> + Sync>(
     eprintln!(rt; "threads: {threads}, {nanoseconds:.1} ns for each {call} of a thread")
 }
 
-/// Makes so many calls of each kind in each thread: standard output has what they come to, and standard error the time.
+/// Makes `times` calls of each kind in each thread. Standard output has their result, and standard error the time.
 pub fn measure_calls<R: Threads + Clock + Print + Eprint + Alloc<A = Global> + Sync>(
     rt: &R,
     times: u32,

@@ -1,7 +1,7 @@
-//! How long the calls take of what threads share: the bound of searches, and the book of recorders.
+//! How long calls take on what threads share: the bound of searches, and the book of recorders.
 //!
-//! `tcc_bench_shared TIMES` makes so many calls at the bound in each thread, a million if it isn't told. Standard output has
-//! what was counted, and standard error the times.
+//! `tcc_bench_shared TIMES` makes TIMES calls at the bound in each thread, or a million without an argument. Standard
+//! output has what was counted, and standard error the times.
 #![tactic(auto)]
 
 mod books;
@@ -25,7 +25,7 @@ fn asked_times(rt: &HostRuntime) -> Option<u32> {
     )
 }
 
-/// Measures the calls at the bound, and the copies of books behind them.
+/// Measures the calls at the bound, and then the copies of books.
 fn run<R: Threads + Clock + Print + Eprint + Alloc<A = Global> + Sync>(
     rt: &R,
     times: u32,

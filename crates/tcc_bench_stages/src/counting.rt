@@ -7,7 +7,7 @@ use csv::{ByteRecord, Error, ReaderBuilder};
 use std::alloc::Global;
 use std::io::Read;
 
-/// The number of records that `source` gives; `u64::MAX` also stands for more.
+/// The number of records that `source` gives; `u64::MAX` also means more.
 pub fn count_records<R: Read + Drop>(alloc: Global, source: R) -> Result<u64, Error>
     ensures counts { IfOk result (λ n. (text : List ℕ) → R.remaining source ≡ Some text → n < 18446744073709551615
         → (rows : List (List (List ℕ))) × AreRecords default_config st.StartRecord (strip_bom text) rows × (length rows ≡ n)) }

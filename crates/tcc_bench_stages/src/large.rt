@@ -41,7 +41,7 @@ fn steps(links: &[Link]) -> u32 {
     steps
 }
 
-/// How many steps the cycle has that is found, 0 where there is none; or how many sessions its slice has.
+/// How many steps the cycle that is found has, 0 where there is none; or how many sessions its slice has.
 fn decided(alloc: Global, snapshot: &LargeSnapshot, level: Level, stage: Stage) -> Option<u32> {
     let graph = graph_of(alloc, snapshot)?;
     let (decision, _order) = decide(alloc, &graph, level).ok()?;
@@ -55,7 +55,7 @@ fn decided(alloc: Global, snapshot: &LargeSnapshot, level: Level, stage: Stage) 
     Some(steps(links))
 }
 
-/// Goes as far as asked, and says how many sessions, transactions or steps there are at the end.
+/// Goes as far as asked, and returns how many sessions, transactions or steps there are at the end.
 pub fn run_large<R: Read + Drop>(
     alloc: Global,
     reader: R,
@@ -82,7 +82,7 @@ fn numbers(alloc: Global, order: &[u32]) -> Option<String> {
     Some(text)
 }
 
-/// What is decided of a history within the large limits: the numbers of its first commit order, or the word
+/// What is decided of a history within the large limits. That is the numbers of its first commit order, or the word
 /// `least`, or `cycle` where that isn't known, and how many steps the cycle has.
 pub fn large_answer<R: Read + Drop>(alloc: Global, reader: R, level: Level) -> Option<String> {
     let snapshot = large_snapshot_of(alloc, reader).ok()?;

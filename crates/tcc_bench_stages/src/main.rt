@@ -1,11 +1,12 @@
-//! Runs the first stages of an explanation alone, so that a script can time each of them: `csv` counts the records of
-//! standard input by csv alone, `rows` reads them and keeps nothing, `snapshot` makes a snapshot of what they finish,
-//! `resolve` resolves it too, `graph` builds its graph too. From there two ways lead on: `order` looks for the first commit
-//! order, and `near` works out the distances, `derive` the prices too.
+//! Runs only the first stages of an explanation, so that a script can time each of them. `csv` counts the records of
+//! standard input by csv alone, and `rows` reads them and keeps nothing. `snapshot` makes a snapshot of what they finish,
+//! `resolve` resolves it too, and `graph` builds its graph too. From there two ways lead on. `order` looks for the first
+//! commit order; `near` works out the distances, and `derive` the prices too.
 //!
-//! `large-snapshot`, `large-resolve`, `large-graph` and `large-order` do the same within the large limits, `large-cycle` looks
-//! for a cycle where there is no order, and `large-slice` cuts a small history out by it. `large-answer` prints what is
-//! decided. `large-survey` counts the contradicted reads, and `survey-answer` prints them. A second argument `atomic` asks for that level of these.
+//! `large-snapshot`, `large-resolve`, `large-graph` and `large-order` do the same within the large limits. `large-cycle`
+//! looks for a cycle where there is no order, and `large-slice` cuts a small history out by it. `large-answer` prints what
+//! is decided. `large-survey` counts the contradicted reads, and `survey-answer` prints them. A second argument `atomic`
+//! asks for that level of these.
 #![tactic(auto)]
 
 ghost use Rattle.std.specs.Prelude.{◌≡◌, ◌≢◌, IfNone, IfSome};
@@ -79,7 +80,7 @@ fn count_finished<R: Read + Drop>(alloc: Global, reader: R) -> Option<u32> {
     None
 }
 
-/// Goes as far as asked beyond the graph, and says how many transactions there are, or how many were ordered.
+/// Goes as far as asked beyond the graph, and returns how many transactions there are, or how many were ordered.
 fn search(rt: &(impl Threads + Sync), alloc: Global, graph: &Graph, stage: Stage) -> Option<u32> {
     if stage == Stage::Graph {
         return Some(graph.count());
@@ -96,7 +97,7 @@ fn search(rt: &(impl Threads + Sync), alloc: Global, graph: &Graph, stage: Stage
     Some(prices.count())
 }
 
-/// Goes as far as asked, and says how many records or transactions there are at the end.
+/// Goes as far as asked, and returns how many records or transactions there are at the end.
 fn run<R: Read + Drop>(
     rt: &(impl Threads + Sync),
     alloc: Global,

@@ -6,7 +6,7 @@ use tcc_reads::resolve_large;
 use tcc_rows::large_snapshot_of;
 use tcc_survey::{Contradicted, Surveyed, survey};
 
-/// How many reads are contradicted, 0 where pairs stand in a circle.
+/// How many reads are contradicted, 0 where pairs form a circle.
 pub fn contradicted(alloc: Global, graph: &LargeGraph, level: Level) -> Option<u32> {
     match survey(alloc, graph, level).ok()? {
         Surveyed::Listed(list) => u32::try_from(list.len()).ok(),

@@ -1,4 +1,4 @@
--- Numbers that are put down in ascending order, word by word and bit by bit.
+-- Numbers that are listed in ascending order, word by word and bit by bit.
 use Rattle.std.proofs.Common.{◌≡◌, ◌≢◌, ◌<◌, ◌≤◌, ◌+◌, ◌*◌, ◌%◌, ◌^◌, ℕ, ◌⊎◌, inl, inr, List, [], ◌∷◌, ◌++◌, get_or, sym, ◌∙◌, arith, subst, w64}
 use Rattle.std.specs.Prelude.{bit_and}
 use Rattle.std.specs.Int.{bit_at, bit_not}
@@ -9,7 +9,7 @@ use Rattle.std.proofs.lemmas.List.Quantifiers.{all_pairs_push}
 use Rattle.tcc_bits.specs.private.Ascending.{IsAscendingBelow}
 use Rattle.tcc_bits.proofs.BitLemmas.{cleared}
 
--- the numbers ascend and stand before each that is left in a word
+-- the numbers ascend and come before each that is left in a word
 pub record IsAscendingBefore (first left : ℕ) (numbers : List ℕ) : Type 0 where
   pub below : (b : ℕ) → Contains numbers b → b < first + 64
   pub before : (b i : ℕ) → Contains numbers b → i < 64 → bit_at left i ≡ 1 → b < first + i

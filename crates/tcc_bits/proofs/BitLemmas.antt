@@ -22,7 +22,7 @@ pub marked_is : (words : List ℕ) (b : ℕ) → is_marked words b ≡ (bit_of w
 unfolding is_marked
 marked_is words b = refl
 
--- a number is marked where its bit is 1
+-- a number is marked if its bit is 1
 pub marked_from : (words : List ℕ) (b : ℕ) → bit_of words b ≡ 1 → is_marked words b ≡ true
 marked_from words b one = marked_is words b ∙ eq-eqb (bit_of words b) 1 one
 
@@ -52,7 +52,7 @@ either zero (suc (suc y)) l m = absurd (omega arith)
 either (suc zero) (suc (suc y)) l m = absurd (omega arith)
 either (suc (suc x)) y l m = absurd (omega arith)
 
--- words that are joined mark what either marks
+-- joined words mark what either marks
 pub joined : (old other new : List ℕ) (b : ℕ) → slice_index new (b / 64) ≡ bit_or (slice_index old (b / 64)) (slice_index other (b / 64))
     → is_marked new b ≡ (is_marked old b || is_marked other b)
 unfolding is_marked
@@ -139,7 +139,7 @@ cleared word k within set_bit =
     )
 
 -- ---- the numbers that a word marks
--- none yet
+-- nothing is listed yet
 pub push_none : (old : List ℕ) (word first b : ℕ) → Contains old b ↔
     (Contains old b ⊎ ((i : ℕ) × (i < 64) × (bit_at word i ≡ 1) × (bit_at word i ≡ 0) × (b ≡ first + i)))
 push_none old word first b = (inl, back)
@@ -193,7 +193,7 @@ push_more old numbers word left first t inside one within before =
         go (inl same) = rw (at, same) (Contains-push numbers (first + t))
         go (inr other) = Contains-append_left numbers ((first + t) ∷ []) b ((before b).1 (inr (i, small, set_bit, sym (others i small other) ∙ none, at)))
 
--- where a word is 0, all that it marked is put down
+-- once a word is 0, all that it marked is listed
 pub push_done : (old numbers : List ℕ) (word left first : ℕ) → left ≡ 0
     → ((b : ℕ) → Contains numbers b ↔ (Contains old b ⊎ ((i : ℕ) × (i < 64) × (bit_at word i ≡ 1) × (bit_at left i ≡ 0) × (b ≡ first + i))))
     → (b : ℕ) → Contains numbers b ↔ (Contains old b ⊎ ((i : ℕ) × (i < 64) × (bit_at word i ≡ 1) × (b ≡ first + i)))

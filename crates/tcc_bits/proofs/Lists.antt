@@ -1,4 +1,4 @@
--- Two lists place by place, and what a list has up to a place.
+-- Two lists index by index, and what a list has up to an index.
 use Rattle.std.proofs.Common.{◌≡◌, ◌<◌, ◌+◌, ◌⊎◌, ℕ, zero, suc, List, [], ◌∷◌, ◌++◌, length, get_or, take, refl, ◌∙◌, arith}
 use Rattle.std.specs.Prelude.{zip}
 use Rattle.std.specs.List.{Contains}
@@ -26,7 +26,7 @@ zip_has rs xs k d same l =
     let second : get_or xs k x ≡ x = get_or_default xs k x d (omega arith) in
     (k, omega (arith, zip-long rs xs same), zip_at rs xs k r x same l ∙ rw (first, second) refl)
 
--- ---- what a list has up to a place
+-- ---- what a list has up to an index
 pub nothing_in : {X : Type 0} (x : X) → Contains [] x → ⊥
 nothing_in x (k, l, e) = omega arith
 

@@ -1,4 +1,4 @@
--- Marks that are joined, marks between two numbers, and marks of some numbers.
+-- Joined marks, marks between two numbers, and marks of some numbers.
 use Rattle.std.proofs.Common.{◌≡◌, ◌≢◌, ◌<◌, ◌≤◌, ◌+◌, ◌-◌, ◌==◌, ◌||◌, ◌↔◌, ◌⊎◌, inl, inr, ℕ, Bool, true}
 use Rattle.std.proofs.Common.{false, List, length, get_or, take, refl, sym, ◌∙◌, ap, arith, subst}
 use Rattle.std.specs.List.{Contains}
@@ -6,7 +6,7 @@ use Rattle.std.proofs.lemmas.Bool.{cases_eq, cases_lt, false≢true, or_cases, o
 use Rattle.tcc_bits.specs.Bits.{is_marked}
 use Rattle.tcc_bits.proofs.Lists.{nothing_in, one_of_taken, still_taken, last_taken}
 
--- ---- marks that are joined
+-- ---- joined marks
 pub or_marks : (old other new : Bool) → new ≡ (old || other) → (new ≡ true) ↔ ((old ≡ true) ⊎ (other ≡ true))
 or_marks old other new is = (λ m. or_cases old other (sym is ∙ m), back)
   where
@@ -48,7 +48,7 @@ between_more old mid new first n from before now b = (λ m. there (both.0 m), ba
     back (inl m) = both.1 (inl ((before b).1 (inl m)))
     back (inr w) = by w (cases_eq b n)
 
--- what stands from `known` on is marked
+-- each number from `known` on is marked
 pub between_known : (old new : List ℕ) (first known end : ℕ) → known ≤ end → ((b : ℕ) → known ≤ b → b < end → is_marked old b ≡ true)
     → AddsBetween old new first known → AddsBetween old new first end
 between_known old new first known end low marked is b = (λ m. onward ((is b).0 m), back)
@@ -73,7 +73,7 @@ between_marked old first end marked b = (inl, back)
     back (inl m) = m
     back (inr w) = marked b w.0 w.1
 
--- from no marks, marks between two numbers
+-- with no marks before, those between two numbers
 pub between_alone : (old new : List ℕ) (first end : ℕ) → ((b : ℕ) → is_marked old b ≡ false) → AddsBetween old new first end → (b : ℕ)
     → (is_marked new b ≡ true) ↔ ((first ≤ b) × (b < end))
 between_alone old new first end none is b = (λ m. go ((is b).0 m), λ w. (is b).1 (inr w))
@@ -82,7 +82,7 @@ between_alone old new first end none is b = (λ m. go ((is b).0 m), λ w. (is b)
     go (inl m) = absurd (false≢true (sym (none b) ∙ m))
     go (inr w) = w
 
--- and marks of these
+-- the same for marks of these numbers
 pub each_alone : (old new numbers : List ℕ) → ((b : ℕ) → is_marked old b ≡ false)
     → ((b : ℕ) → (is_marked new b ≡ true) ↔ ((is_marked old b ≡ true) ⊎ Contains numbers b)) → (b : ℕ) → (is_marked new b ≡ true) ↔ Contains numbers b
 each_alone old new numbers none is b = (λ m. go ((is b).0 m), λ w. (is b).1 (inr w))

@@ -3,7 +3,7 @@ use Rattle.std.proofs.Common.{ℕ, ◌≡◌, List, [], ◌∷◌, map, Option, 
 use Rattle.std.specs.Prelude.{min}
 use Rattle.tcc_bits.specs.Packed.{capped_at}
 
--- a value capped twice is capped by the lesser
+-- a value capped twice is capped by the lesser cap
 capped_once : (earlier cap : ℕ) (value : Option ℕ) → capped_at (min cap earlier) value ≡ capped_at cap (capped_at earlier value)
 capped_once earlier cap None =
     let same : min (min cap earlier) (min cap earlier) ≡ min cap (min earlier earlier) = omega arith in ap (λ (n : ℕ). Some n) same

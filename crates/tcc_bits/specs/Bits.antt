@@ -1,4 +1,5 @@
--- Rows of marks, 64 in a word. The calls of `bits` speak of them, for the crates above; no answer is told by them.
+-- Rows of marks, 64 in a word. The calls of `bits` are described by them, for the crates above. No answer of the program is
+-- described by them.
 use Rattle.std.specs.Prelude.{ℕ, ◌≡◌, ◌↔◌, ◌+◌, ◌/◌, ◌%◌, ◌==◌, Bool, true, false, List, slice_index, Contains}
 use Rattle.std.specs.Int.{bit_at}
 
@@ -6,7 +7,7 @@ use Rattle.std.specs.Int.{bit_at}
 unfoldable pub is_marked : List ℕ → ℕ → Bool
 is_marked words b = bit_at (slice_index words (b / 64)) (b % 64) == 1
 
--- how many words have room for this many marks
+-- how many words hold this many marks
 abbrev pub words_for : ℕ → ℕ
 words_for n = n / 64 + 1
 

@@ -2,11 +2,11 @@
 use Rattle.std.specs.Prelude.{ℕ, ◌==◌, min, Option, None, Some, if◌then◌else◌, unwrap_or}
 use Rattle.tcc_bits.specs.declared.packed.TheConstants.{NO_VALUE}
 
--- what 16 bits stand for
+-- what 16 bits represent
 abbrev pub value_in : ℕ → Option ℕ
 value_in bits = if bits == NO_VALUE then None else Some bits
 
--- the value, but no more than the cap; the cap where it is none
+-- the value, but at most the cap; the cap if there is no value
 abbrev pub at_most : ℕ → Option ℕ → ℕ
 at_most cap value = min cap (unwrap_or value cap)
 

@@ -1,5 +1,5 @@
 //! Bit sets: rows of marks, 64 in a word. Number b is bit b % 64 of word b / 64. To mark a number and to ask for one takes one
-//! step; what is marked and not seen yet is found a word at a time, in N / 64 steps and one for each that is found.
+//! step. What is marked and not seen yet is found a word at a time, in N / 64 steps and one for each number found.
 ghost use Rattle.std.specs.Prelude.{◌≡◌, ◌<◌, ◌≤◌, ◌+◌, ◌/◌, ◌^◌, ◌==◌, ◌||◌, ◌↔◌, ◌⊎◌, ℕ, true, length, All, Contains, OnOk};
 ghost use Rattle.std.specs.Int.{bit_at};
 ghost use Rattle.std.specs.List.{AllPairs};
@@ -12,7 +12,7 @@ use std::alloc::AllocError;
 /// How many marks a word has.
 const WORD: usize = 64;
 
-/// How many words have room for this many marks.
+/// How many words hold this many marks.
 pub fn words_for(count: usize) -> usize
     ensures { result ≡ words_for count }
 {
@@ -49,7 +49,7 @@ pub fn mark_each(words: &mut [u64], numbers: &[u32])
     }
 }
 
-/// Puts down the numbers that a word marks, in ascending order; its lowest place stands for `first`.
+/// Appends the numbers that a word marks, in ascending order. Its lowest bit represents `first`.
 fn push_marked(numbers: &mut Vec<u32>, word: u64, first: u32) -> Result<(), AllocError>
     requires { first < 2 ^ 31 }
     ensures each { OnOk result ((b : ℕ) → Contains numbers.new.items b
@@ -65,7 +65,7 @@ fn push_marked(numbers: &mut Vec<u32>, word: u64, first: u32) -> Result<(), Allo
     Ok(())
 }
 
-/// The numbers that are marked and have not been seen, ascending; they are seen from now on.
+/// Finds the numbers that are marked and have not been seen, in ascending order. They count as seen from now on.
 pub fn take_fresh(fresh: &mut Vec<u32>, seen: &mut [u64], marks: &[u64]) -> Result<(), AllocError>
     requires same { length seen.old ≡ length marks.now }
     requires few { length marks.now ≤ LARGE_COUNT }

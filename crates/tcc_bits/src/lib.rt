@@ -1,5 +1,5 @@
-//! Rows of marks, 64 in a word; rows of values, which contracts see as lists; and rows of numbers or none, in 16 bits each where
-//! all have room.
+//! Rows of marks, 64 in a word; rows of values, which contracts see as lists; and rows of numbers or none. These take 16 bits
+//! each if all fit.
 #![tactic(auto)]
 
 mod bits;

@@ -1,4 +1,4 @@
-//! A row of values, each a number or none: 16 bits a value where all of them have room, else 64.
+//! A row of values, each a number or none: 16 bits a value if all of them fit, else 64.
 ghost use Rattle.std.specs.Prelude.{◌≡◌, ◌<◌, length, map, slice_index_or, IfOk, IfSome, None};
 ghost use Rattle.tcc_bits.specs.Packed.{at_most, capped_at, value_in};
 ghost use Rattle.tcc_bits.specs.private.Values.{capped_by, values_in};
@@ -6,18 +6,18 @@ ghost use Rattle.tcc_bits.specs.private.Values.{capped_by, values_in};
 use std::alloc::{AllocError, Global};
 use std::marker::Model;
 
-/// What 16 bits hold where there is none.
+/// The 16 bits that represent none.
 pub const NO_VALUE: u16 = u16::MAX;
 
 /// The values of a row.
 #[derive(Drop)]
 enum Values {
-    /// `NO_VALUE` stands for none.
+    /// `NO_VALUE` represents none.
     Narrow(Vec<u16>),
     Wide(Vec<Option<u32>>),
 }
 
-/// Values in order; the cap, where there is one, stands where there is none or a greater one.
+/// Values in order. If there is a cap, it replaces none and each greater value.
 #[derive(Drop)]
 pub struct PackedRow {
     values: Values,
@@ -33,7 +33,7 @@ impl Model for PackedRow {
     ghost view = { λ r. capped_by r.cap (values_in r.values) };
 }
 
-/// What 16 bits stand for.
+/// What 16 bits represent.
 fn value_in(bits: u16) -> Option<u32>
     ensures { result ≡ value_in bits }
 {
@@ -44,7 +44,7 @@ fn value_in(bits: u16) -> Option<u32>
     }
 }
 
-/// The 16 bits that stand for a value, if there are such.
+/// The 16 bits that represent a value, if there are such.
 fn bits_of(value: Option<u32>) -> Option<u16>
     ensures { IfSome result (λ bits. value_in bits ≡ value) }
 {
@@ -55,7 +55,7 @@ fn bits_of(value: Option<u32>) -> Option<u16>
     }
 }
 
-/// The 16 bits that stand for each of these, if there are such for all.
+/// The 16 bits that represent each of these values, if there are such for all.
 fn narrowed(alloc: Global, values: &[Option<u32>]) -> Result<Option<Vec<u16>>, AllocError>
     ensures { IfOk result (λ found. IfSome found (λ narrow. map value_in narrow.items ≡ values.now)) }
 {
@@ -80,7 +80,7 @@ fn value_at(values: &Values, index: usize) -> Option<u32>
     }
 }
 
-/// The value, but no more than the cap; the cap where it is none.
+/// The value, but at most the cap; the cap if there is no value.
 fn at_most(cap: u32, value: Option<u32>) -> u32
     ensures { result ≡ at_most cap value }
 {
@@ -112,8 +112,8 @@ impl PackedRow {
         Ok(PackedRow { values, cap: None })
     }
 
-    /// The row with each value capped, and the cap where there is none. The values stay as they lie: the cap is
-    /// applied where one of them is asked for.
+    /// The row with each value capped, and the cap for none. The stored values stay as they are: the cap is applied when one
+    /// of them is asked for.
     pub fn capped(self, cap: u32) -> PackedRow
         ensures { result ≡ map (capped_at cap) self }
     {
@@ -149,7 +149,7 @@ impl PackedRow {
         }
     }
 
-    /// The values one by one, as a list of its own.
+    /// The values one by one, as a new list.
     pub fn unpacked(&self, alloc: Global) -> Result<Vec<Option<u32>>, AllocError>
         ensures { IfOk result (λ values. values.items ≡ self.now) }
     {
@@ -160,7 +160,7 @@ impl PackedRow {
         Ok(values)
     }
 
-    /// Writes the values, each capped, into a slice for as many.
+    /// Writes the values, each capped, into a slice of the same length.
     pub fn write_capped(&self, cap: u32, values: &mut [u32])
         requires { length values.old ≡ length self.now }
         ensures { values.new ≡ map (at_most cap) self.now }

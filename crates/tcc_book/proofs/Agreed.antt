@@ -1,5 +1,7 @@
--- Lemmas on agreement. Index: what a look through the sessions has found so far (found-here, unfound-more, unfound-all); the
--- first without a pass (first-here, none-more, none-all); the least torn pass so far (torn-same, torn-more).
+-- Lemmas on agreement.
+-- - found-here, unfound-more, unfound-all: what a search through the sessions has found so far
+-- - first-here, none-more, none-all: the first session without a pass
+-- - torn-same, torn-more: the least torn pass so far
 use Rattle.std.proofs.Common.{◌≡◌, ◌⊎◌, ℕ, suc, zero, ◌+◌, ◌≤◌, Bool, true, false, cond, List, [], ◌∷◌, ◌++◌, length}
 use Rattle.std.proofs.Common.{map, take, find, Option, None, Some, refl, sym, ap, ◌∙◌, arith, inl, inr, true≢false}
 use Rattle.std.proofs.Common.{⊎_elim}
@@ -20,7 +22,7 @@ use Rattle.tcc_book.specs.private.Lesser.{lesser}
 use Rattle.tcc_txn.proofs.SortedParts.{name_cmp}
 
 module _ {X : Type 0} (q : List ℕ) where
-  -- the session stands here
+  -- the session is here
   pub found-here : (es : List (List ℕ × X)) (i : ℕ) (n : List ℕ) (v : X) → finite.find name_cmp q (take i es) ≡ None
       → slice_get es i ≡ Some (n, v) → same n q ≡ true → finite.find name_cmp q es ≡ Some v
   found-here [] i n v none here alike = absurd (none-some (n, v) here)
@@ -50,7 +52,7 @@ module _ {X : Type 0} (q : List ℕ) where
       by rest true is = absurd (none-some e.1 (sym (rw is at none)))
       by rest false is = rw is (rest (rw is at none))
 
-  -- a name that was not found before an index, and is not the one there, is not found behind it
+  -- a name that was not found before an index, and is not the one there, is not found among those up to it
   pub unfound-more : (es : List (List ℕ × X)) (i : ℕ) (n : List ℕ) (v : X) → finite.find name_cmp q (take i es) ≡ None
       → slice_get es i ≡ Some (n, v) → same n q ≡ false → finite.find name_cmp q (take (i + 1) es) ≡ None
   unfound-more es i n v none here other =
@@ -62,7 +64,7 @@ module _ {X : Type 0} (q : List ℕ) where
   unfound-all es i none past = ap (finite.find name_cmp q) (sym (take_all i es past)) ∙ none
 
 module _ {X : Type 0} (test : List ℕ → Bool) where
-  -- the first that passes stands here
+  -- the first name that passes is here
   pub first-here : (es : List (List ℕ × X)) (i : ℕ) (n : List ℕ) (v : X) → find test (map (λ e. e.0) (take i es)) ≡ None
       → slice_get es i ≡ Some (n, v) → test n ≡ true → find test (map (λ e. e.0) es) ≡ Some n
   first-here [] i n v none here passes = absurd (none-some (n, v) here)
@@ -100,7 +102,7 @@ module _ {X : Type 0} (test : List ℕ → Bool) where
   pub none-all : (es : List (List ℕ × X)) (i : ℕ) → find test (map (λ e. e.0) (take i es)) ≡ None → length es ≤ i → find test (map (λ e. e.0) es) ≡ None
   none-all es i none past = ap (λ (fs : List (List ℕ × X)). find test (map (λ e. e.0) fs)) (sym (take_all i es past)) ∙ none
 
--- nothing stands past the end
+-- there is nothing past the end
 pub none-past : {X : Type 0} (es : List X) (i : ℕ) → slice_get es i ≡ None → length es ≤ i
 none-past [] i none = omega arith
 none-past (e ∷ es) zero none = absurd (none-some e (sym none))
@@ -115,7 +117,7 @@ no-less n = by (name_cmp n n) (nat_list_cmp_total.antisymm n n)
     by Equal turned = refl
     by Greater turned = refl
 
--- of two names one is not less
+-- of two names at most one is less
 not-both : (m n : List ℕ) → is_lt (name_cmp m n) ≡ true → is_lt (name_cmp n m) ≡ false
 not-both m n less = ap is_lt (nat_list_cmp_total.antisymm n m) ∙ by (name_cmp m n) less
   where
@@ -135,7 +137,7 @@ still-no-less q m n up down = by (name_cmp q n) refl (name_cmp m q) refl
     by Equal is s tied = ap is_lt is
     by Greater is s tied = ap is_lt is
 
--- a pass more with which the sessions agree
+-- one more pass with which the sessions agree
 pub torn-same : (s : Sessions) (ps : List Passed) (p : Passed) (o : Option (List ℕ)) → LeastTorn s ps o → Agrees s p → LeastTorn s (ps ++ p ∷ []) o
 torn-same s ps p None all agrees = All-push (Agrees s) ps p all agrees
 torn-same s ps p (Some n) least agrees = (
@@ -143,7 +145,7 @@ torn-same s ps p (Some n) least agrees = (
   All-push (λ pass. Agrees s pass ⊎ (is_lt (name_cmp pass.session n) ≡ false)) ps p least.1 (inl agrees),
 )
 
--- one pass more, with which the sessions do not agree
+-- one more pass, with which the sessions do not agree
 pub torn-more : (s : Sessions) (ps : List Passed) (p : Passed) (o : Option (List ℕ)) → LeastTorn s ps o → (Agrees s p → ⊥)
     → LeastTorn s (ps ++ p ∷ []) (Some (lesser o p.session))
 torn-more s ps p None all torn = (

@@ -1,5 +1,9 @@
--- The copy of a book. Index: what stands at a session's positions (taken); each position is in the journal (within); the parts of
--- the copy (parts-shown); no more transactions than records (few-listed); the parts make a snapshot (no-fault).
+-- The copy of a book.
+-- - taken: the transactions at a session's positions
+-- - within: each position is in the journal
+-- - parts-shown: the parts of the copy
+-- - few-listed: no more transactions than records
+-- - no-fault: the parts make a snapshot
 use Rattle.std.proofs.Common.{◌≡◌, ℕ, ◌+◌, ◌≤◌, ◌<◌, All, Bool, true, false, cond, List, [], ◌∷◌, ◌++◌, length}
 use Rattle.std.proofs.Common.{map, None, Some, refl, sym, ap, ◌∙◌, subst, arith, sum_by, append_assoc}
 use Rattle.std.proofs.Common.{length-append}
@@ -28,7 +32,7 @@ use Rattle.tcc_book.specs.private.BookStorage.{AreWithin, IsStored, Positions, n
 use Rattle.tcc_book.specs.declared.entry.Entry.{Entry}
 use Rattle.tcc_book.proofs.Positions.{length-keys}
 
--- what stands at the positions of a session is what it recorded
+-- the transactions at the positions of a session are what it recorded
 taken-from : (session : List ℕ) (front es : List Entry)
     → map (txn_at (front ++ es)) (positions_from session (length front) es) ≡ list_of session es
 taken-from session front [] = refl
@@ -70,7 +74,7 @@ positions-below session n (e ∷ es) = by (positions-below session (n + 1) es) (
         (subst (λ m. All (λ position. position < m) (positions_from session (n + 1) es)) next rest))
     by rest false is = rw is (subst (λ m. All (λ position. position < m) (positions_from session (n + 1) es)) next rest)
 
--- the list of each session is the positions of its records
+-- the list of each session has the positions of its records
 listed-at : (positions : Positions) (journal : List Entry) (k : ℕ) (d : List ℕ × Vec ℕ) → IsStored positions journal → k < length positions.entries
     → (slice_index_or positions.entries k d).1.items ≡ positions_from (slice_index_or positions.entries k d).0 0 journal
 listed-at positions journal k d is within =
@@ -98,18 +102,18 @@ pub parts-shown : (positions : Positions) (journal : List Entry) → IsStored po
     → map (part_at journal) positions.entries ≡ map (λ session. (session, list_of session journal)) (keys positions)
 parts-shown positions journal is = parts-listed journal positions.entries (λ k d inside. listed-at positions journal k d is inside)
 
--- how many of the names are this one
+-- how often this name is among the names
 abbrev tally : List ℕ → List (List ℕ) → ℕ
 tally x names = sum_by (λ n. cond (same n x) 1 0) names
 
--- none of the names that differ from it
+-- a name does not occur among names that differ from it
 none-else : (n x : List ℕ) (ns : List (List ℕ)) → n ≡ x → AllByRecursion (λ y. same n y ≡ false) ns → tally x ns ≡ 0
 none-else n x [] is all = refl
 none-else n x (m ∷ ns) is all =
     let other : same m x ≡ false = ap (same m) (sym is) ∙ sym (nat_list_eq_equiv.symm n m) ∙ all.0 in
     sum_by-cons (λ k. cond (same k x) 1 0) m ns ∙ (λ i. cond (other i) 1 0 + none-else n x ns is all.1 i)
 
--- of different names at most one is this
+-- among different names each occurs at most once
 one-name : (names : List (List ℕ)) (x : List ℕ) → IsDistinct same names → tally x names ≤ 1
 unfolding IsDistinct
 one-name [] x distinct = omega arith
@@ -124,7 +128,7 @@ one-name (n ∷ ns) x distinct = by (one-name ns x distinct.1) (same n x) refl
         let all = sum_by-cons (λ k. cond (same k x) 1 0) n ns ∙ ap (λ b. cond b 1 0 + tally x ns) is in
         omega (arith, all, rest)
 
--- one record more is one transaction more, of its session
+-- one more record is one more transaction, of its session
 one-more : (e : Entry) (es : List Entry) (n : List ℕ) → length (list_of n (e ∷ es)) ≡ length (list_of n es) + cond (same n e.session) 1 0
 one-more e es n = by (same n e.session) refl
   where
@@ -145,14 +149,14 @@ no-records : (names : List (List ℕ)) → sum_by (λ n. length (list_of n [])) 
 no-records [] = refl
 no-records (n ∷ ns) = omega (arith, sum_by-cons (λ k. length (list_of k [])) n ns, no-records ns)
 
--- different sessions recorded no more than there are records
+-- different sessions recorded at most as many transactions as there are records
 pub few-listed : (names : List (List ℕ)) (journal : List Entry) → IsDistinct same names
     → sum_by (λ session. length (list_of session journal)) names ≤ length journal
 few-listed names [] distinct = omega (arith, no-records names)
 few-listed names (e ∷ es) distinct =
     omega (arith, all-more e es names, one-name names e.session distinct, few-listed names es distinct)
 
--- a name before which it does not stand
+-- a name that is not among those before it
 apart : (earlier : List (List ℕ)) (name : List ℕ) (later : List (List ℕ)) → IsDistinct same (earlier ++ name ∷ later) → list_any (same name) earlier ≡ false
 apart earlier name later distinct = list_any_none (same name) earlier (λ k d inside.
     let all = earlier ++ name ∷ later in

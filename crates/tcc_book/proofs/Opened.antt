@@ -1,4 +1,4 @@
--- A book after one session more.
+-- A book after one more session.
 use Rattle.std.proofs.Common.{◌≡◌, ℕ, ◌≤◌, ◌<◌, Bool, true, false, cond, List, [], ◌∷◌, ◌++◌}
 use Rattle.std.proofs.Common.{length, None, Some, refl, sym, ap, ◌∙◌, subst, arith, is_some}
 use Rattle.std.proofs.Common.{length-append}
@@ -15,7 +15,7 @@ use Rattle.tcc_book.specs.private.BookStorage.{Positions, IsStored, positions_fr
 use Rattle.tcc_book.specs.declared.entry.Entry.{Entry}
 use Rattle.tcc_book.proofs.Positions.{no-positions}
 
--- what was found is found still
+-- what was found is still found
 still-known : (old new : Positions) (session : List ℕ) (list : Vec ℕ) (es : List Entry)
     → ((q : List ℕ) → get same new q ≡ cond (same session q) (Some list) (get same old q))
     → list_all (λ e. is_some (get same old e.session)) es ≡ true → list_all (λ e. is_some (get same new e.session)) es ≡ true
@@ -30,7 +30,7 @@ still-known old new session list (e ∷ es) more known =
     by rest true found false is = rw (more e.session, is, found) (rest (rw found at known))
     by rest false found b is = absurd (cc (rw found at known))
 
--- one session more, with no records
+-- one more session, with no records
 pub opened : (old new : Positions) (journal : List Entry) (session : List ℕ) (list : Vec ℕ) → IsStored old journal
     → get same old session ≡ None → index_map_len old < MAX_SESSIONS → list.items ≡ []
     → Updates same old new session (Some list) → new.entries ≡ insert_entry same old.entries session list → IsUnique same new
@@ -65,7 +65,7 @@ pub opened-names : (old new : Positions) (session : List ℕ) (list : Vec ℕ) �
 opened-names old new session list none entries =
     ap keys_of (entries ∙ insert_entry-new same old session list none) ∙ map-append (λ e. e.0) old.entries ((session, list) ∷ [])
 
--- where no entry changed the journal is stored as before
+-- if no entry changed, the journal is stored as before
 pub unchanged : (old new : Positions) (journal : List Entry) → new.entries ≡ old.entries → IsStored old journal → IsStored new journal
 unchanged old new journal kept is = record {
   each = λ q list at. is.each q list (ap (lookup (same q)) (sym kept) ∙ at);

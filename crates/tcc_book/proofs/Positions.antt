@@ -1,6 +1,9 @@
--- Lemmas on books. Index: how many positions a session has (length-positions, few-positions); one record more (positions-more,
--- list-more); a session without records (no-positions); the names of a map of positions (open-found); what is stored is a book
--- (is-book).
+-- Lemmas on books.
+-- - length-positions, few-positions: how many positions a session has
+-- - positions-more, list-more: one more record
+-- - no-positions: a session without records
+-- - open-found: the names of a map of positions
+-- - is-book: what is stored is a book
 use Rattle.std.proofs.Common.{◌≡◌, ℕ, ◌+◌, ◌≤◌, Bool, true, false, cond, List, [], ◌∷◌, ◌++◌, length, None, refl, sym, ap, ◌∙◌, arith, is_some, true≢false}
 use Rattle.std.specs.List.{list_any, list_all}
 use Rattle.std.proofs.lemmas.Map.Made.{is_some-lookup}
@@ -22,7 +25,7 @@ length-positions session n (e ∷ es) = by (length-positions session (n + 1) es)
     by rest true is = rw is (omega (arith, rest))
     by rest false is = rw is rest
 
--- a session has no more positions than there are records
+-- a session has at most as many positions as there are records
 pub few-positions : (session : List ℕ) (n : ℕ) (es : List Entry) → length (positions_from session n es) ≤ length es
 few-positions session n [] = omega arith
 few-positions session n (e ∷ es) = by (few-positions session (n + 1) es) (same session e.session) refl
@@ -32,7 +35,7 @@ few-positions session n (e ∷ es) = by (few-positions session (n + 1) es) (same
     by rest true is = rw is (omega (arith, rest))
     by rest false is = rw is (omega (arith, rest))
 
--- the positions after one record more
+-- the positions after one more record
 pub positions-more : (session : List ℕ) (n : ℕ) (es : List Entry) (e : Entry)
     → positions_from session n (es ++ e ∷ []) ≡ positions_from session n es ++ cond (same session e.session) ((n + length es) ∷ []) []
 positions-more session n [] e = by (same session e.session) refl
@@ -85,7 +88,7 @@ no-positions session positions n (e ∷ es) none known =
 pub length-keys : (positions : Positions) → length (keys positions) ≡ index_map_len positions
 length-keys positions = length-map positions.entries (λ e. e.0)
 
--- a book that is stored so is one that can lie under a lock
+-- a book that is stored so can be under a lock
 pub is-book : (positions : Positions) (journal : List Entry) → IsStored positions journal → IsBook (record { names = keys positions; journal = journal })
 is-book positions journal is = record {
   once = is.once;

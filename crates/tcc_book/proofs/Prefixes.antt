@@ -27,18 +27,18 @@ module _ {X : Type 0} (front all : List X) where
   too_long longer (rest, is) = absurd (omega (arith, longer, ap length is, length-append front rest))
 
 module _ (small large : Sessions) where
-  -- the list of the session goes on
+  -- the list of the session is continued
   abbrev pub GoesOn : List ℕ → Type 0
   GoesOn name = IsPrefix (list_of small name) (list_of large name)
 
-  -- the lists of the first sessions go on
+  -- the lists of the first sessions are continued
   abbrev pub GoOn : ℕ → Type 0
   GoOn n = (k : ℕ) (e : Named) → k < n → slice_get (entries small) k ≡ Some e → GoesOn e.0
 
   stands : (i : ℕ) (e : Named) → i < length (entries small) → slice_get (entries small) i ≡ Some e → Contains (entries small) e
   stands i e within at = (i, within, get_or_from_slice_get (entries small) i e e at)
 
-  -- what stands at a position is the list of its session, and what a search finds there is the list in the other
+  -- the list at an index is that of its session, and what a search finds there is the list in the other snapshot
   module _ (i : ℕ) (e : Named) (within : i < length (entries small)) (at : slice_get (entries small) i ≡ Some e) (found : List Transaction)
       (found_is : found ≡ list_of large e.0) where
     list_is : list_of small e.0 ≡ e.1

@@ -1,4 +1,4 @@
--- A book after one record more.
+-- A book after one more record.
 use Rattle.std.proofs.Common.{◌≡◌, ℕ, ◌+◌, ◌≤◌, ◌<◌, Bool, true, false, cond, List, [], ◌∷◌, ◌++◌, length, Option, None, Some}
 use Rattle.std.proofs.Common.{refl, sym, ap, ◌∙◌, subst, arith, is_some, ◌&&◌, length-append, append-nil, inl, inr, Err}
 use Rattle.std.proofs.Common.{true≢false, ◌≢◌}
@@ -18,7 +18,7 @@ use Rattle.tcc_book.specs.declared.fault.RecordFault.{RecordFault}
 use Rattle.tcc_book.specs.declared.fault.RecordFault.TheVariants as refused
 use Rattle.tcc_book.proofs.Positions.{length-keys, length-positions, open-found, positions-more}
 
--- a list that was written through
+-- a list that was updated
 pub relists : (old new : Positions) (session : List ℕ) (list list' : Vec ℕ) (items : List ℕ) → get same old session ≡ Some list
     → list'.items ≡ items → WritesThrough same (same session) old list' new → Relists old session list items new
 relists old new session list list' items found listed written = record {
@@ -30,7 +30,7 @@ relists old new session list list' items found listed written = record {
   once = written.4;
 }
 
--- the sessions that were found are found still
+-- the sessions that were found are still found
 still : (old new : Positions) (session : List ℕ) (list list' : Vec ℕ) (q : List ℕ) → get same old session ≡ Some list
     → get same new q ≡ cond (same session q) (Some list') (get same old q) → is_some (get same new q) ≡ is_some (get same old q)
 still old new session list list' q found updated = by (same session q) refl
@@ -68,7 +68,7 @@ relisted old new journal session list is changed = record {
     by q found at false apart =
         is.each q found (sym (ap (λ b. cond b (Some changed.list') (get same old q)) apart) ∙ sym (changed.updates.0 q) ∙ at)
 
--- a list with one position more
+-- a list with one more position
 pub recorded : (old new : Positions) (journal : List Entry) (entry : Entry) (list : Vec ℕ) → IsStored old journal → length journal < MAX_TRANSACTIONS
     → Relists old entry.session list (list.items ++ length journal ∷ []) new → IsStored new (journal ++ entry ∷ [])
 recorded old new journal entry list is room changed = record {
@@ -109,7 +109,7 @@ recorded old new journal entry list is room changed = record {
         is.each q found (sym (ap (λ b. cond b (Some changed.list') (get same old q)) apart) ∙ sym (changed.updates.0 q) ∙ at)
         ∙ sym (more ∙ ap (λ b. positions_from q 0 journal ++ cond b ((0 + length journal) ∷ []) []) other ∙ append-nil (positions_from q 0 journal))
 
--- lists that stay leave the names and how the book lies
+-- lists that stay leave the names as they are, and the book as it is stored
 pub kept-names : (old new : Positions) (session : List ℕ) → Keeps old session new → keys new ≡ keys old
 kept-names old new session (inl is) = ap keys is
 kept-names old new session (inr changed) = changed.1.names
@@ -121,7 +121,7 @@ kept old new journal session is (inr changed) = relisted old new journal session
 abbrev pub shown : Positions → List Entry → Book
 shown positions journal = record { names = keys positions; journal = journal }
 
--- a list that is found says how much its session holds
+-- a list that is found says how many transactions its session has
 pub matched : (positions : Positions) (journal : List Entry) (session : List ℕ) (list : Vec ℕ) (held : ℕ) → IsStored positions journal
     → get same positions session ≡ Some list → length list.items ≡ held → Matches (shown positions journal) session held
 matched positions journal session list held is found long =
@@ -143,7 +143,7 @@ refusal-keeps old new session held position (refused.Full most) is = absurd is
 refusal-keeps old new session held position (refused.Torn torn) is = is.2
 refusal-keeps old new session held position refused.NoMemory is = is
 
--- a refusal is for what it says
+-- a refusal gives the right reason
 pub refusal-is : (old new : Positions) (journal : List Entry) (session : List ℕ) (held position : ℕ) (txn : Transaction) (fault : RecordFault)
     → IsStored old journal → length journal < MAX_TRANSACTIONS
     → AddsPosition {U = Unit {0}} old session held position (Err fault) new

@@ -15,7 +15,7 @@ use Rattle.tcc_book.specs.Passes.{Agrees, Passed, has_pass, recorded_by}
 abbrev pub part_by : Passed → List ℕ × List Transaction
 part_by pass = (pass.session, pass.recorded)
 
--- where none is missing the sessions have passes
+-- if none is missing, the sessions have passes
 none-missing : (passes : List Passed) (ns : List (List ℕ)) (q : List ℕ) → find (λ name. not (has_pass passes name)) ns ≡ None
     → list_any (λ n. is_eq (name_cmp q n)) ns ≡ true → has_pass passes q ≡ true
 none-missing passes [] q none any = absurd (true≢false (sym any))

@@ -24,11 +24,11 @@ no_book = record { names = []; journal = [] }
 abbrev pub is_open : List ℕ → Book → Bool
 is_open session book = list_any (same session) book.names
 
--- what the session recorded: the filter of the journal by its name
+-- what the session recorded: the journal, filtered by its name
 abbrev pub list_of : List ℕ → List Entry → List Transaction
 list_of session journal = map (λ e. e.txn) (filter (λ e. same session e.session) journal)
 
--- how many transactions the session holds
+-- how many transactions the session has
 abbrev pub held_by : List ℕ → Book → ℕ
 held_by session book = length (list_of session book.journal)
 
@@ -36,8 +36,8 @@ held_by session book = length (list_of session book.journal)
 abbrev pub copy_of : Book → Sessions
 copy_of book = from_entries (map (λ session. (session, list_of session book.journal)) book.names)
 
--- what holds of every book that lies under a lock: no name is opened twice, each record is of an opened one, and there are
--- not too many of either
+-- what holds for every book under a lock: no name is opened twice, each record is of an opened one, and there are not too many
+-- of either
 pub record IsBook (book : Book) : Type 0 where
   pub once : IsDistinct same book.names
   pub known : list_all (λ e. is_open e.session book) book.journal ≡ true
@@ -54,11 +54,11 @@ Opens old session (Err (unopened.TooManySessions held)) new =
     (is_open session old ≡ false) × (length old.names ≡ MAX_SESSIONS) × (held ≡ MAX_SESSIONS) × (new ≡ old)
 Opens old session (Err unopened.NoMemory) new = new ≡ old
 
--- the book has a list of the session, and it is so long
+-- the book has a list of the session, with this length
 abbrev pub Matches : Book → List ℕ → ℕ → Type 0
 Matches book session held = (is_open session book ≡ true) × (held_by session book ≡ held)
 
--- a transaction is recorded, or the first reason why not, and then nothing changes and the transaction comes back
+-- a transaction is recorded; or the first reason why not, and then nothing changes and the transaction is returned
 abbrev pub Records : {U : Type 0} → Book → List ℕ → ℕ → Transaction → Result U (RecordFault × Transaction) → Book → Type 0
 Records old session held txn (Ok done) new =
     (length old.journal < MAX_TRANSACTIONS) × Matches old session held

@@ -1,4 +1,4 @@
--- Passes: what a recorder holds of its session.
+-- Passes: what a recorder has of its session.
 use Rattle.std.specs.Prelude.{◌≡◌, ◌⊎◌, ℕ, ◌<◌, Bool, true, false, not, All, List}
 use Rattle.std.specs.Prelude.{[], ◌∷◌, ◌++◌, map, find, length, Option, None, Some, Result, Ok, Err}
 use Rattle.std.specs.Cmp.Lexicographic.{slice_cmp}
@@ -20,7 +20,7 @@ use Rattle.tcc_book.specs.declared.fault.WholeFault.{WholeFault}
 use Rattle.tcc_book.specs.declared.fault.WholeFault.TheVariants as unwhole
 use Rattle.tcc_book.specs.declared.pass.Receipt.{Receipt}
 
--- the session's name, and what was recorded for it by the pass
+-- the session's name, and what was recorded for it through the pass
 pub record Passed : Type 0 where
   pub session : List ℕ
   pub recorded : List Transaction
@@ -29,11 +29,11 @@ pub record Passed : Type 0 where
 abbrev pub new_pass : List ℕ → Passed
 new_pass session = record { session = session; recorded = [] }
 
--- some book that can lie under a lock is so: the one that the call found there
+-- the property holds for some book that can be under a lock: the one that the call found there
 abbrev pub OfSomeBook : (Book → Type 0) → Type 0
 OfSomeBook Is = (book : Book) × IsBook book × Is book
 
--- the session gets its new pass, where it was not open and there was room; or the reason why not
+-- the session gets its new pass, if it was not open and there was room; or the reason why not
 abbrev pub GivesPass : List ℕ → Result Passed OpenFault → Type 0
 GivesPass session (Ok pass) =
     (pass ≡ new_pass session) × OfSomeBook (λ book. (is_open session book ≡ false) × (length book.names < MAX_SESSIONS))
@@ -42,8 +42,8 @@ GivesPass session (Err (unopened.TooManySessions held)) =
     (held ≡ MAX_SESSIONS) × OfSomeBook (λ book. (is_open session book ≡ false) × (length book.names ≡ MAX_SESSIONS))
 GivesPass session (Err unopened.NoMemory) = Unit {0}
 
--- the pass has one transaction more, and the receipt says which; or the reason why not, and then nothing changes and the
--- transaction comes back
+-- the pass has one more transaction, and the receipt says which; or the reason why not, and then nothing changes and the
+-- transaction is returned
 abbrev pub Receives : Passed → Transaction → Result Receipt (RecordFault × Transaction) → Passed → Type 0
 Receives old txn (Ok receipt) new =
     (new ≡ record { session = old.session; recorded = old.recorded ++ txn ∷ [] }) × (receipt.place ≡ length new.recorded)
@@ -73,7 +73,7 @@ has_pass passes session = list_any (λ pass. same session pass.session) passes
 abbrev pub recorded_by : List Passed → Sessions
 recorded_by passes = from_entries (map (λ pass. (pass.session, pass.recorded)) passes)
 
--- the least name of a pass with which the sessions do not agree, or none where they agree with all
+-- the least name of a pass with which the sessions do not agree, or none if they agree with all
 abbrev pub LeastTorn : Sessions → List Passed → Option (List ℕ) → Type 0
 LeastTorn sessions passes None = All (Agrees sessions) passes
 LeastTorn sessions passes (Some name) =
@@ -84,8 +84,8 @@ LeastTorn sessions passes (Some name) =
 abbrev pub first_missing : Sessions → List Passed → Option (List ℕ)
 first_missing sessions passes = find (λ name. not (has_pass passes name)) (map (λ e. e.0) (entries sessions))
 
--- a copy of the book that is exactly what the passes recorded, or the reason why not: the least session of the book that has
--- no pass, or the least name of a pass with which the book's lists do not agree
+-- A copy of the book that is exactly what the passes recorded, or the reason why not. That is the least session of the book
+-- that has no pass, or the least name of a pass with which the book's lists do not agree.
 abbrev pub IsWhole : List Passed → Result Sessions WholeFault → Type 0
 IsWhole passes (Ok sessions) = (sessions ≡ recorded_by passes) × OfSomeBook (λ book. sessions ≡ copy_of book)
 IsWhole passes (Err (unwhole.MissingPass session)) = OfSomeBook (λ book. first_missing (copy_of book) passes ≡ Some session)

@@ -58,7 +58,7 @@ fn missing(copy: &Snapshot, passes: &[Pass]) -> Option<Name>
     None
 }
 
-/// The lesser of the names, or the one that there is.
+/// The lesser of the names, or the only one.
 fn lesser(least: Option<Name>, name: &Name) -> Name
     ensures { result ≡ lesser least name.now }
 {
@@ -81,7 +81,7 @@ fn least_torn(copy: &Snapshot, passes: &[Pass]) -> Option<Name>
     least
 }
 
-/// The copy of the book, where it has exactly what the pass recorded.
+/// The copy of the book, if it has exactly what the pass recorded.
 pub(crate) fn sealed_copy(copy: Snapshot, pass: &Pass) -> Result<Snapshot, SealFault>
     ensures { IsSealedCopy copy pass.now result }
 {
@@ -93,7 +93,7 @@ pub(crate) fn sealed_copy(copy: Snapshot, pass: &Pass) -> Result<Snapshot, SealF
     Ok(copy)
 }
 
-/// The copy of the book, where it is exactly what the passes recorded.
+/// The copy of the book, if it is exactly what the passes recorded.
 pub(crate) fn whole_copy(copy: Snapshot, passes: &[Pass]) -> Result<Snapshot, WholeFault>
     ensures { IsWholeCopy copy passes.now result }
 {

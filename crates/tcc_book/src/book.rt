@@ -10,7 +10,7 @@ use std::alloc::Global;
 use std::sync::{Mutex, Wait};
 use tcc_txn::{Name, NoMemory, Snapshot, Txn};
 
-/// What sessions record, each by its pass; threads share it by reference.
+/// What sessions record, each by its pass. Threads share it by reference.
 ///
 /// ```rust
 /// let book = Book::new(alloc)?;
@@ -34,7 +34,7 @@ impl Book {
         })
     }
 
-    /// Opens a session, and gives its pass.
+    /// Opens a session, and returns its pass.
     pub fn open(&self, rt: &impl Wait, alloc: Global, session: Name) -> Result<Pass, OpenFault>
         ensures { GivesPass session result }
     {
@@ -42,7 +42,7 @@ impl Book {
         Ok(Pass::new(alloc, session))
     }
 
-    /// Records a transaction by its session's pass; a refused one comes back.
+    /// Records a transaction by its session's pass. A refused one is returned.
     pub fn record(
         &self,
         rt: &impl Wait,
@@ -59,8 +59,8 @@ impl Book {
         pass.record(&mut *state, txn, copy)
     }
 
-    /// What all sessions have recorded at one moment, of the pass's session exactly what the pass recorded. It holds the
-    /// lock for a time in proportion to all that the book has.
+    /// What all sessions have recorded at one moment; for the pass's session that is exactly what the pass recorded. It holds
+    /// the lock for a time in proportion to all that the book has.
     pub fn seal(&self, rt: &impl Wait, alloc: Global, pass: &Pass) -> Result<Snapshot, SealFault>
         ensures { Seals pass.now result }
     {
@@ -70,8 +70,8 @@ impl Book {
         sealed_copy(copy, pass)
     }
 
-    /// Exactly what the passes recorded, where they are those of all sessions. It holds the lock for a time in proportion
-    /// to all that the book has.
+    /// Exactly what the passes recorded, if they are those of all sessions. It holds the lock for a time in proportion to all
+    /// that the book has.
     pub fn whole(
         &self,
         rt: &impl Wait,
@@ -86,7 +86,7 @@ impl Book {
         whole_copy(copy, passes)
     }
 
-    /// Answers as `whole` does, and ends the book and its passes; where it is refused they come back.
+    /// Returns what `whole` does, and ends the book and its passes. If it is refused, they are returned.
     pub fn close(
         self,
         rt: &impl Wait,

@@ -6,10 +6,10 @@ use thiserror::Error;
 /// Why a session was not opened.
 #[derive(Clone, Copy, Debug, PartialEq, Eq, Error)]
 pub enum OpenFault {
-    /// The session is open already, and holds so many transactions.
+    /// The session is open already, and has `held` transactions.
     #[error("the session is open already, with {held} transactions")]
     Taken { held: u32 },
-    /// So many sessions are open, as many as can be.
+    /// `held` sessions are open, as many as can be.
     #[error("{held} sessions are open, as many as can be")]
     TooManySessions { held: u32 },
     /// Out of memory.
@@ -20,7 +20,7 @@ pub enum OpenFault {
 /// Why a transaction was not recorded.
 #[derive(Clone, Copy, Debug, PartialEq, Eq, Error)]
 pub enum RecordFault {
-    /// The book holds so many transactions, as many as can be.
+    /// The book has `held` transactions, as many as can be.
     #[error("the book holds {held} transactions, as many as can be")]
     Full { held: u32 },
     /// The book has no list of the session, or one that isn't as long as what was recorded by the pass.
@@ -31,7 +31,7 @@ pub enum RecordFault {
     NoMemory,
 }
 
-/// Why no snapshot with a pass's session was given.
+/// Why no snapshot with a pass's session was returned.
 #[derive(Clone, Copy, Debug, PartialEq, Eq, Error)]
 pub enum SealFault {
     /// The book has no list of the session, or one that isn't what was recorded by the pass.
@@ -42,7 +42,7 @@ pub enum SealFault {
     NoMemory,
 }
 
-/// Why no snapshot of exactly the passes was given.
+/// Why no snapshot of exactly the passes was returned.
 #[derive(Clone, Copy, Debug, PartialEq, Eq, Error)]
 pub enum WholeFault {
     /// The least name of a session of the book that has no pass here.

@@ -13,7 +13,7 @@ fn begins_with(all: &[Txn], front: &[Txn]) -> bool
     front.len() <= all.len() && are_same(front, &all[..front.len()])
 }
 
-/// What the session has in the snapshot; where there is no such session, nothing.
+/// What the session has in the snapshot, or nothing if there is no such session.
 fn list_of<'a>(snapshot: &'a Snapshot, session: &Name) -> &'a [Txn]
     ensures { result.now ≡ list_of snapshot.now session.now }
 {
@@ -23,9 +23,9 @@ fn list_of<'a>(snapshot: &'a Snapshot, session: &Name) -> &'a [Txn]
     }
 }
 
-/// Whether every list of the first snapshot is a prefix of the list of that session in the second; otherwise the least
-/// session, in byte order of the names, for which it isn't. A session that isn't in the second has an empty list there.
-/// It is for those who take snapshots at several moments, and want to know that each goes on from the one before.
+/// Whether every list of the first snapshot is a prefix of the list of that session in the second. Otherwise it returns the
+/// least session, in byte order of the names, for which it isn't. A session that isn't in the second has an empty list there.
+/// It is for those who take snapshots at several moments, and want to know that each continues the one before.
 pub fn nested<'a>(earlier: &'a Snapshot, later: &Snapshot) -> Result<(), &'a Name>
     ensures { MatchResult result (λ _. IsNested earlier.now later.now) (λ name. IsFirstCut earlier.now later.now name.now) }
 {

@@ -1,4 +1,4 @@
-//! Passes: what a recorder holds of its session.
+//! Passes: what a recorder has of its session.
 ghost use Rattle.std.specs.Prelude.{◌≡◌, [], IfOk, length};
 ghost use Rattle.tcc_book.specs.{Books.Records, Passes.Receives};
 
@@ -27,7 +27,7 @@ impl Model for Pass {
     ghost invariant = { λ p. length p.recorded.items ≤ MAX_TRANSACTIONS };
 }
 
-/// That a transaction was recorded, and as which one of its session.
+/// Says that a transaction was recorded, and as which one of its session.
 #[derive(Clone, Copy, Debug, PartialEq, Eq)]
 pub struct Receipt {
     /// Its place among those of the session, counted from 1.
@@ -45,7 +45,7 @@ impl Pass {
         }
     }
 
-    /// Records a transaction in the book, and its copy here; a refused one comes back.
+    /// Records a transaction in the book, and its copy here. A refused one is returned.
     pub(crate) fn record(
         &mut self,
         book: &mut BookState,

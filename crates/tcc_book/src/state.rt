@@ -31,7 +31,7 @@ impl Model for BookState {
     ghost invariant = { λ s. IsStored s.positions s.journal.items };
 }
 
-/// Adds a position to the list of a session that has so many.
+/// Adds a position to the list of a session that has `held` of them.
 fn add_position(
     positions: &mut IndexMap<Name, Vec<usize>>,
     session: &Name,
@@ -113,8 +113,8 @@ impl BookState {
         Ok(())
     }
 
-    /// Adds a transaction to the journal and to the list of its session, whose pass has recorded so many; a refused one
-    /// comes back.
+    /// Adds a transaction to the journal and to the list of its session, whose pass has recorded `held` of them. A refused one
+    /// is returned.
     pub fn record(&mut self, session: &Name, held: u32, txn: Txn) -> Result<(), (RecordFault, Txn)>
         ensures records { Records self.old session.now held txn result self.new }
         ensures lawful { IsBook self.old }
@@ -144,7 +144,7 @@ impl BookState {
         Ok(())
     }
 
-    /// The map of all sessions to what each recorded. It takes time in proportion to all that is held.
+    /// The map of all sessions to what each recorded. It takes time in proportion to all that is recorded.
     pub fn copy(&self, alloc: Global) -> Result<Snapshot, NoMemory>
         ensures copy { IfOk result (λ copy. copy ≡ copy_of self.now) }
         ensures lawful { IsBook self.now }

@@ -1,4 +1,4 @@
--- Each step keeps the rule, and what it tells follows from the rule.
+-- Each step keeps the rule, and what the step reports follows from the rule.
 use Rattle.std.proofs.Common.{◌≡◌, ℕ, zero, suc, ◌≤◌, ◌≢◌, ◌++◌, List, [], ◌∷◌, min, set, slice_index, slice_set, inl, inr, refl, sym, subst, ap, ◌∙◌, ⊎_elim}
 use Rattle.std.proofs.Common.{le_trans, le_refl, arith}
 use Rattle.std.proofs.lemmas.List.Elements.{All-append, All-push, All-nil}
@@ -32,7 +32,7 @@ falls views seat low word floor new le fits others i view at =
     (λ (t : (i ≢ seat) × (get_elem? views i ≡ some view)). lowered low word floor view le (others i view t.1))
     (at_set views seat i new view at)
 
--- one view more
+-- one more view
 grows : (views : List View) (word floor : ℕ) (new : View) → Agrees word floor new
     → ((i : ℕ) (view : View) → get_elem? views i ≡ some view → Agrees word floor view)
     → (i : ℕ) (view : View) → get_elem? (views ++ new ∷ []) i ≡ some view → Agrees word floor view
@@ -50,7 +50,7 @@ kept_of words views seat known (inl new) at =
     absurd (only_unnamed seat known (subst (λ (vs : List View). get_elem? vs seat ≡ some (Live known)) new.one_seat at))
 kept_of words views seat known (inr kept) at = kept
 
--- what is below some number is below all that it is below
+-- what is at most some number is at most everything that this number is at most
 under : (low word : ℕ) (known : Known) → low ≤ word → IsAtMostAll word known → IsAtMostAll low known
 under low word known le below = (le_trans le below.0, λ i d lt. le_trans le (below.1 i d lt))
 
@@ -83,7 +83,7 @@ looks_as slots seat known s holds homes at small =
       (below, (refl, omega arith)),
     )
 
--- a load tells its seat the word
+-- a load reports the word to its seat
 pub looks : (slots seat : ℕ) (me : Own) → IsLive me → Allows Ruled slots seat me 0 (λ n. n) (Looks me)
 looks slots seat me is = subst (λ (m : Own). Allows Ruled slots seat m 0 (λ n. n) (Looks m)) (sym is) (looks_as slots seat (known_of me.0))
 
@@ -110,7 +110,7 @@ offers_as slots seat cost known dear s holds homes at small =
       (below, (refl, over)),
     )
 
--- a `fetch_min` tells its seat what the word has become, and notes the cost
+-- a `fetch_min` reports to its seat what the word has become, and notes the cost
 pub offers : (slots seat cost : ℕ) (me : Own) → IsLive me → (known_of me.0).floor ≤ cost → Allows Ruled slots seat me 0 (λ n. min n cost) (Offers cost me)
 offers slots seat cost me is dear =
     subst (λ (m : Own). Allows Ruled slots seat m 0 (λ n. min n cost) (Offers cost m)) (sym is) (offers_as slots seat cost (known_of me.0) dear)
@@ -130,7 +130,7 @@ splits_as seat known s holds at =
           (falls s.views seat kept.word kept.word kept.floor (Live known) (le_refl kept.word) fits kept.agree);
     }
 
--- a seat that is split off has the sight and no offers
+-- a seat that is split off has the same sight and no offers
 pub splits : (seat : ℕ) (me : Own) → IsLive me → Splits Ruled seat me.0 me.0 (split_view me.0)
 splits seat me is = subst (λ (m : Own). Splits Ruled seat m.0 m.0 (split_view m.0)) (sym is) (splits_as seat (known_of me.0))
 

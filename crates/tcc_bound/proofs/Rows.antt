@@ -1,4 +1,4 @@
--- Worked rows of the definitions, with values worked out by hand.
+-- Worked examples of the definitions, with values worked out by hand.
 use Rattle.std.proofs.Common.{◌≡◌, ℕ, zero, suc, ◌≤◌, List, [], ◌∷◌, refl, sym, subst, ap, ◌∙◌, arith}
 use Rattle.std.proofs.lemmas.List.Elements.{All-cons, All-nil, All-head}
 use mathlib.Core.Option.{some, some-injective, some-ne-none}
@@ -16,7 +16,7 @@ known floor sight offers = record { floor = floor; sight = sight; offers = offer
 first_offer : with_sight (with_offer (newcomer 3) 7) 7 ≡ known 3 7 (7 ∷ [])
 first_offer = refl
 
--- an offer of 9 behind one of 7, where another seat offered 5
+-- an offer of 9 after one of 7, where another seat offered 5
 higher_offer : with_sight (with_offer (known 3 7 (7 ∷ [])) 9) 5 ≡ known 3 5 (7 ∷ 9 ∷ [])
 higher_offer = refl
 

@@ -6,7 +6,7 @@ use Rattle.tcc_bound.specs.declared.known.Known.{Known}
 abbrev pub no_cost : ℕ
 no_cost = 18446744073709551615
 
--- at most all that the seat offered or saw
+-- at most everything that the seat offered or saw
 abbrev pub IsAtMostAll : ℕ → Known → Type 0
 IsAtMostAll n known = (n ≤ known.sight) × All (λ cost. n ≤ cost) known.offers
 
@@ -14,11 +14,11 @@ IsAtMostAll n known = (n ≤ known.sight) × All (λ cost. n ≤ cost) known.off
 abbrev pub newcomer : ℕ → Known
 newcomer floor = record { floor = floor; sight = no_cost; offers = [] }
 
--- the seat, once it was told the word
+-- the seat, after the word was reported to it
 abbrev pub with_sight : Known → ℕ → Known
 with_sight known word = record known { sight = word }
 
--- the seat, once it offered a cost
+-- the seat, after it offered a cost
 abbrev pub with_offer : Known → ℕ → Known
 with_offer known cost = record known { offers = known.offers ++ cost ∷ [] }
 

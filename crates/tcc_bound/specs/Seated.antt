@@ -2,7 +2,7 @@
 use Rattle.atomic_table.specs.Seated.{TableId}
 use Rattle.tcc_bound.specs.declared.known.Known.{Known}
 
--- what tells one bound from another
+-- what distinguishes bounds from each other
 abbrev pub BoundId : Type 0
 BoundId = TableId
 

@@ -44,9 +44,10 @@ fn name<F: Floor>(shared: &Shared<(), View, (), AtMostAll>, token: &mut Token<()
 }
 
 impl Bound {
-    /// A bound to which nothing was offered, and its first seat. Its one word takes memory, so it answers `AllocError` where there is none.
+    /// A bound to which nothing was offered, and its first seat. Its one word takes memory, so it returns `AllocError`
+    /// where there is none.
     ///
-    /// The caller names the floor, a number that contracts alone see. No offer may be below it, and so the word never is.
+    /// The caller names the floor, a number that only contracts see. No offer may be below it, and so the word never is.
     pub fn new(alloc: Global) -> Result<(Bound, Seat), AllocError>
         ghost floor: { ℕ }
         requires { floor < 2 ^ 64 }
@@ -79,7 +80,7 @@ impl Bound {
         shared.join_seat::<Joining>(&mut seat.token, other.token);
     }
 
-    /// The word as it is, by one load: at most all that the seat offered or saw, and not below the floor.
+    /// The word as it is, by one load: at most everything that the seat offered or saw, and not below the floor.
     pub fn look(&self, seat: &mut Seat) -> u64
         requires { seat.old.bound ≡ self.now }
         ensures least { IsAtMostAll result seat.old.known }
@@ -89,9 +90,9 @@ impl Bound {
         self.table.shared.load::<Looking>(&mut seat.token, 0)
     }
 
-    /// Lowers the word to the cost, unless it is that low already, and answers it as it then is, by one `fetch_min`.
+    /// Lowers the word to the cost, unless it is that low already, and returns it as it then is, by one `fetch_min`.
     ///
-    /// A cost is below `u64::MAX`, which stands for none, and not below the floor.
+    /// A cost is below `u64::MAX`, which means no cost, and not below the floor.
     pub fn offer(&self, seat: &mut Seat, cost: u64) -> u64
         requires bound { seat.old.bound ≡ self.now }
         requires cost { (seat.old.known.floor ≤ cost) × (cost < u64.MAX) }
@@ -105,8 +106,8 @@ impl Bound {
         found.min(cost)
     }
 
-    /// The last word, and the end of the bound: at most all that the seat, and each that was joined into it, offered or saw, and not below
-    /// the floor. Other seats of this bound are of no more use.
+    /// The last word, and the end of the bound. It is at most everything that the seat, and each that was joined into it,
+    /// offered or saw, and not below the floor. Other seats of this bound are of no more use.
     pub fn close(self, seat: Seat) -> u64
         requires { seat.bound ≡ self }
         ensures least { IsAtMostAll result seat.known }

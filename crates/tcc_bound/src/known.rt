@@ -1,11 +1,11 @@
-//! What the rule of a bound keeps of each seat. No value of these types is made: they exist in proofs alone.
+//! What the rule of a bound keeps of each seat. No value of these types is made: they exist only in proofs.
 use std::collections::LinkedList;
 
 /// What a seat knows.
 pub struct Known {
     /// No cost that is offered is below it.
     pub floor: u64,
-    /// The word as the seat was last told; `u64::MAX` before.
+    /// The word as it was last reported to the seat; `u64::MAX` before.
     pub sight: u64,
     /// The costs that it, and the seats joined into it, offered.
     pub offers: LinkedList<u64>,

@@ -1,7 +1,7 @@
 //! The bound that searches in many threads share: one word, the least cost that any of them has offered.
 //!
-//! Each thread works with a seat of its own, through a `&Bound`. `look` reads the word, `offer` lowers it to a cost, and both answer the
-//! word as it then is. No call waits for another thread.
+//! Each thread works with a seat of its own, through a `&Bound`. `look` reads the word, `offer` lowers it to a cost, and
+//! both return the word as it then is. No call waits for another thread.
 #![tactic(auto)]
 
 mod bound;

@@ -1,11 +1,11 @@
-//! The rule of the word, and what each step on it tells.
+//! The rule of the word, and what each step on it reports.
 ghost use Rattle.std.specs.Prelude.{ℕ};
 
 use crate::known::View;
 use atomic_table::{Join, Play, Split, TableRule};
 use std::marker::{Brand, PhantomData};
 
-/// The word is at most what every seat offered and saw, and not below the floor.
+/// The word is at most everything that a seat offered or saw, and not below the floor.
 pub struct AtMostAll;
 
 impl TableRule<(), View, ()> for AtMostAll {
@@ -16,7 +16,7 @@ impl TableRule<(), View, ()> for AtMostAll {
     ghost first = { λ _. Unnamed };
 }
 
-/// The number that whoever makes a bound names as its floor.
+/// The number that the maker of a bound names as its floor.
 pub trait Floor {
     ghost number: { ℕ };
 }

@@ -5,8 +5,9 @@ use std::marker::Model;
 
 /// A seat at a bound. It has no bytes, and may go to another thread.
 ///
-/// Contracts see which bound it is of, the floor of that bound, the word as the seat was last told (its sight), and the costs that it and
-/// all seats joined into it offered. The offers and the sight of a seat that is dropped still count.
+/// Contracts see which bound it is of, the floor of that bound, and the word as it was last reported to the seat (its
+/// sight). They also see the costs that it and all seats joined into it offered. The offers and the sight of a seat that is
+/// dropped still count.
 #[derive(Drop)]
 pub struct Seat {
     pub(crate) token: Token<(), View>,

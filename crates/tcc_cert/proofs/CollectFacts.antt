@@ -103,7 +103,7 @@ within-in remaining input (stage.Going s) ahead is going well = omega (arith, is
 within-in remaining input stage.Ended ahead is going well = absurd cc
 within-in remaining input (stage.Stopped fault) ahead is going well = absurd cc
 
--- memory was refused behind a part
+-- memory was refused after a part
 pub refused-end : {R : Type 0} (remaining : R → Option (List ℕ)) (reader : CertReader R) (ahead now : Parts) (fault : CertFault) → now.line ≡ ahead.line
     → IsAhead remaining reader now → has_ended reader ≡ false → fault_met reader ≡ None
     → 0 < fault.line → fault ≡ record { line = line_wanted reader; kind = NoMemory } → EndsIn ahead fault
@@ -193,7 +193,7 @@ cycle-read bytes head rest tables is has =
     whole.1 ∙ ap Ok (cycle-is whole.0 head rest.parts tables.links.items tables.near.items tables.far.items
     (sym (ap (λ p. p.parts) is) ∙ whole.2) has.links has.near has.far)
 
--- a fault behind the first part is one of the whole text
+-- a fault after the first part is one of the whole text
 pub behind-end : (bytes : List ℕ) (first : Part) (rest : Parts) (fault : CertFault) → parts_read bytes ≡ after_part first rest → EndsIn rest fault
     → IsReading bytes (Err fault)
 behind-end bytes first rest fault is (inl end) = ends-read bytes fault (inl (ap (λ p. p.fault) is ∙ end.0, ap (λ p. p.line) is ∙ end.1))

@@ -25,7 +25,7 @@ words_text-more (first ∷ words) word some =
     ap (λ l. first ++ l) (flat_map-append (λ w. 32 ∷ w) words (word ∷ []) ∙ ap (λ l. later words ++ 32 ∷ l) (append-nil word))
     ∙ sym (append_assoc first (later words) (32 ∷ word))
 
--- one more number of one digit, behind a space
+-- one more number of one digit, after a space
 pub digit-more : (line front : List ℕ) (k d : ℕ) → 0 < k → 2 * k < length line → length front ≡ k → take (2 * k - 1) line ≡ words_text (numbers_words front)
     → get_or line (2 * k - 1) 0 ≡ 32 → get_or line (2 * k) 0 ≡ 48 + d → d < 10
     → take (2 * (k + 1) - 1) line ≡ words_text (numbers_words (front ++ d ∷ []))

@@ -2,8 +2,8 @@
 use Rattle.std.proofs.Common.{◌≡◌, ℕ, ◌+◌, ◌*◌, ◌<◌, ◌≤◌, ◌^◌, true, eqb, List, [], ◌∷◌, length, Ok, refl, arith, codes, decimal, lit≤, lit<}
 use Rattle.tcc_cert.specs.declared.version.Version.{Version}
 use Rattle.tcc_cert.specs.declared.version.Version.TheVariants.{One, Two}
-use Rattle.tcc_cert.specs.declared.ranges.Scale.{Scale}
-use Rattle.tcc_cert.specs.declared.ranges.Scale.TheVariants.{Small}
+use Rattle.tcc_cert.specs.declared.ranges.TextFormat.{TextFormat}
+use Rattle.tcc_cert.specs.declared.ranges.TextFormat.TheVariants.{Small}
 use Rattle.tcc_cert.specs.Ranges.{ranges_at, ranges_of}
 use Rattle.std.specs.List.{AllByRecursion}
 use Rattle.std.proofs.lemmas.Bool.Decides.{nat_tests}
@@ -46,7 +46,7 @@ each-short : (v : Version) (numbers : List ℕ) → AreAtMost (ranges_of v).cost
 each-short v [] all = tt
 each-short v (n ∷ numbers) all = (number-short v n all.0, each-short v numbers all.1)
 
--- a line has room for so many, with the bytes between them
+-- a line has room for this many, with the bytes between them
 room : (v : Version) (count : ℕ) → count ≤ (ranges_of v).count → (digits v + 1) * count ≤ (ranges_of v).line_bytes + 1
 room One count few = omega (arith, few)
 room Two count few = omega (arith, few)
@@ -89,19 +89,19 @@ IsPlainKey key = (0 < length key) × (length key ≤ 32) × IsAbove 32 key
 -- ---- steps
 
 -- a number's numeral
-pub number-word : (v : Scale) (n : ℕ) → IsNumber v n → (0 < length (decimal n)) × IsAbove 32 (decimal n)
+pub number-word : (v : TextFormat) (n : ℕ) → IsNumber v n → (0 < length (decimal n)) × IsAbove 32 (decimal n)
 number-word v n h = (decimal_nonempty n (omega (arith, h, numbers v)), decimal-above n (omega (arith, h, numbers v)))
 
-pub number-back : (v : Scale) (n : ℕ) → IsNumber v n → number_of 0 (ranges_at v).number (decimal n) ≡ Ok n
+pub number-back : (v : TextFormat) (n : ℕ) → IsNumber v n → number_of 0 (ranges_at v).number (decimal n) ≡ Ok n
 number-back v n h = number_of-decimal 0 (ranges_at v).number n (omega arith) h (omega (arith, h, numbers v))
 
-pub numbers-two : (v : Scale) (a b : ℕ) → IsNumber v a → IsNumber v b → AreWords (decimal a ∷ decimal b ∷ [])
+pub numbers-two : (v : TextFormat) (a b : ℕ) → IsNumber v a → IsNumber v b → AreWords (decimal a ∷ decimal b ∷ [])
 numbers-two v a b ha hb = ((number-word v a ha).0, (number-word v a ha).1, ((number-word v b hb).0, (number-word v b hb).1, tt))
 
-pub eight_digits : (v : Scale) (n : ℕ) → IsNumber v n → length (decimal n) ≤ 8
+pub eight_digits : (v : TextFormat) (n : ℕ) → IsNumber v n → length (decimal n) ≤ 8
 eight_digits v n h = length-decimal-le 8 n (lit< tt) (omega (arith, h, numbers v)) (omega (arith, h, numbers v))
 
-pub session-back : (v : Scale) (a b : ℕ) → HasStepText v (step.Session a b) → IsReadBack v (step_line v) step_words (step.Session a b)
+pub session-back : (v : TextFormat) (a b : ℕ) → HasStepText v (step.Session a b) → IsReadBack v (step_line v) step_words (step.Session a b)
 session-back v a b h = record {
   are = (lit< tt, (lit< tt, tt), numbers-two v a b h.0 h.1);
   short = omega (arith, lines v, words-short 8 (codes "S") (decimal a ∷ decimal b ∷ []) (lit≤ tt) (eight_digits v a h.0, (eight_digits v b h.1, tt)));

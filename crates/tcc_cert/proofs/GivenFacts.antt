@@ -33,7 +33,7 @@ not_failed : (far : List (List ℕ)) → stage_of far ≡ Failed → ⊥
 not_failed [] is = subst working is tt
 not_failed (x ∷ xs) is = subst working is tt
 
--- the text with one row more, and the stage behind it
+-- the text with one more row, and the stage after it
 more_text : (t : CycleTable) (count : ℕ) (row : List ℕ) (k : CycleClaim) (stage : Stage) → stage ≡ stage_of k.far → MayTake t k
     → lines_text (given_lines count k) ++ (mark_before t stage ++ line_text (numbers_words row)) ≡ lines_text (given_lines count (with_rows t k (row ∷ [])))
 more_text table.Near count row k stage is none = sym (one_near count k row none)
@@ -57,7 +57,7 @@ module _ {W : Type 0} (contents : W → Option (List ℕ)) where
   abbrev pub IsSentBy : {E : Type 0} → Result Unit E → CycleWriter W → CycleWriter W → List ℕ → Type 0
   IsSentBy s old new text = IsSent s (contents old.out.now) old.outgoing (contents new.out.now) new.outgoing text
 
-  -- a row, behind the mark if it is the first of `far`
+  -- a row, after the mark if it is the first of `far`
   pub row_whole : {E : Type 0} (s : Result Unit E) (t : CycleTable) (old new : CycleWriter W) (before : Option (List ℕ)) (count : ℕ) (k : CycleClaim)
       (row : List ℕ) → HasTaken contents before count k old → MayTake t k
       → IsSentBy s old new (mark_before t old.stage ++ line_text (numbers_words row)) → OnOk s (new.stage ≡ stage_behind t old.stage)

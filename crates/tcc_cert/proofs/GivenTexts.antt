@@ -1,4 +1,4 @@
--- The text of what was given, and one row more.
+-- The text of what was given, and one more row.
 use Rattle.std.proofs.Common.{◌≡◌, ℕ, ◌+◌, ◌<◌, List, [], ◌∷◌, ◌++◌, Option, length, refl, sym, ap, subst, ◌∙◌}
 use Rattle.std.proofs.Common.{append_assoc, append-nil, take, drop, get_or, take-append-drop, codes, decimal}
 use Rattle.std.proofs.Common.{flat_map}
@@ -26,7 +26,7 @@ begun_of count k = begun_lines k.version k.level count k.links k.least
 apart : (l t f : List Words) → lines_text (l ++ (t ++ f)) ≡ lines_text l ++ (lines_text t ++ lines_text f)
 apart l t f = flat_map-append line_text l (t ++ f) ∙ ap (λ s. flat_map line_text l ++ s) (flat_map-append line_text t f)
 
--- what comes last, behind two texts and behind three
+-- what comes last, after two texts and after three
 last_of_two : (l t f r : List ℕ) → f ≡ [] → l ++ ((t ++ r) ++ f) ≡ (l ++ (t ++ f)) ++ r
 last_of_two l t f r none =
     rw none (ap (λ x. l ++ x) (append-nil (t ++ r)) ∙ sym (append_assoc l t r) ∙ ap (λ x. (l ++ x) ++ r) (sym (append-nil t)))
@@ -38,7 +38,7 @@ last_of_three l t f r = ap (λ x. l ++ x) (sym (append_assoc t f r)) ∙ sym (ap
 rows_text : (rows more : List (List ℕ)) → lines_text (table_lines (rows ++ more)) ≡ lines_text (table_lines rows) ++ lines_text (table_lines more)
 rows_text rows more = ap (flat_map line_text) (map-append numbers_words rows more) ∙ flat_map-append line_text (table_lines rows) (table_lines more)
 
--- a text behind the rows of `near`, where there is none of `far`
+-- a text after the rows of `near`, where there is none of `far`
 near_text : (count : ℕ) (k : CycleClaim) (more : List (List ℕ)) → k.far ≡ []
     → lines_text (given_lines count (record k { near = k.near ++ more })) ≡ lines_text (given_lines count k) ++ lines_text (table_lines more)
 near_text count k more none =
@@ -54,7 +54,7 @@ pub one_near : (count : ℕ) (k : CycleClaim) (row : List ℕ) → k.far ≡ []
 one_near count k row none =
     near_text count k (row ∷ []) none ∙ ap (λ t. lines_text (given_lines count k) ++ t) (append-nil (line_text (numbers_words row)))
 
--- a text behind the rows of `far`
+-- a text after the rows of `far`
 behind_far : (count : ℕ) (k : CycleClaim) (far : List (List ℕ)) (t : List ℕ) → lines_text (far_lines far) ≡ lines_text (far_lines k.far) ++ t
     → lines_text (given_lines count (record k { far = far })) ≡ lines_text (given_lines count k) ++ t
 behind_far count k far t more =
@@ -117,7 +117,7 @@ part_early a b s t (n, h) = Appends-part (Stops-early t (drop n s, record { sent
 pub rows_more : (rows : List (List ℕ)) (i : ℕ) (row : List ℕ) → i < length rows → row ≡ get_or rows i row → take i rows ++ row ∷ [] ≡ take (i + 1) rows
 rows_more rows i row lt is = ap (λ y. take i rows ++ y ∷ []) is ∙ sym (take_at_read rows i row lt).1
 
--- the rows up to the next one, whose numbers were lent
+-- the rows up to the next one, whose numbers were borrowed
 pub rows_next : (rows : List (List ℕ)) (i : ℕ) (row slice : List ℕ) → slice ≡ row → i < length rows → row ≡ get_or rows i row
     → take i rows ++ slice ∷ [] ≡ take (i + 1) rows
 rows_next rows i row slice same lt is = ap (λ y. take i rows ++ y ∷ []) same ∙ rows_more rows i row lt is
@@ -151,7 +151,7 @@ text_more table.Far count k more none =
     (marked.0, behind_far count k (k.far ++ more) marked.0 marked.1)
 
 module _ (a b : Option (List ℕ)) (count : ℕ) where
-  -- a part of the text of what was given went out
+  -- a part of the text of what was given was written
   abbrev pub IsGivenPart : CycleClaim → Type 0
   IsGivenPart k = IsPart a b (lines_text (given_lines count k))
 

@@ -21,19 +21,19 @@ goes_on front rest = prefix_len-append (λ byte. not (eqb byte 10)) front rest
 pub length-within : (bytes : List ℕ) → line_length bytes ≤ length bytes
 length-within bytes = prefix_len-le-length (λ byte. not (eqb byte 10)) bytes
 
--- no line feed stands among the first bytes
+-- no line feed is among the first bytes
 pub unbroken : (front rest : List ℕ) → line_length front ≡ length front → line_length (front ++ rest) ≡ length front + line_length rest
 unbroken front rest none =
     let all : eqb (line_length front) (length front) ≡ true = grind (arith, nat_tests) in
     goes_on front rest ∙ rw all refl
 
--- a line feed among the first bytes
+-- a line feed is among the first bytes
 pub ended-within : (front rest : List ℕ) → line_length front < length front → line_length (front ++ rest) ≡ line_length front
 ended-within front rest some =
     let part : eqb (line_length front) (length front) ≡ false = grind (arith, nat_tests) in
     goes_on front rest ∙ rw part refl
 
--- bytes behind some that were searched
+-- bytes after some that were searched
 searched-on : (bytes : List ℕ) (n : ℕ) → n ≤ length bytes → line_length (take n bytes) ≡ n → line_length bytes ≡ n + line_length (drop n bytes)
 searched-on bytes n within none =
     let long = length-take-le n bytes within in
@@ -104,7 +104,7 @@ line-found most held rest lt fits =
     let there : ltb (line_length held) (length (held ++ rest)) ≡ true = grind (arith, nat_tests, length-append held rest) in
     rw (ended-within held rest lt, within, there) (ap Ok (take-append-le (line_length held) held rest (omega arith)))
 
--- more bytes stand before the line feed, or without one
+-- more bytes after these make the first line no shorter
 no-shorter : (held rest : List ℕ) → (line_length held < length held) ⊎ (length held ≤ line_length held) → line_length held ≤ line_length (held ++ rest)
 no-shorter held rest (inl lt) = omega (arith, ended-within held rest lt)
 no-shorter held rest (inr le) = omega (arith, unbroken held rest (omega (arith, length-within held)), le, length-within held)

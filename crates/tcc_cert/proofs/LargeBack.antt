@@ -12,12 +12,12 @@ use Rattle.tcc_cert.specs.declared.large.LargeCertificate.{LargeCertificate}
 use Rattle.tcc_cert.specs.declared.large.LargeCertificate.TheVariants as claim
 use Rattle.tcc_cert.specs.declared.large.Run.{Run}
 use Rattle.tcc_cert.specs.declared.large.RunsClaim.{RunsClaim}
-use Rattle.tcc_cert.specs.declared.ranges.Scale.TheVariants.{Large}
+use Rattle.tcc_cert.specs.declared.ranges.TextFormat.TheVariants.{Large}
 use Rattle.tcc_cert.specs.declared.ranges.TheConstants.{MAX_HEADER_BYTES}
 use Rattle.tcc_cert.specs.declared.reading.forms.Sizes.{Sizes}
 use Rattle.tcc_cert.specs.declared.reading.forms.Sizes.TheVariants.{Order, Cycle}
 use Rattle.tcc_cert.specs.declared.reading.large_forms.LargeOrderSizes.{LargeOrderSizes}
-use Rattle.tcc_cert.specs.declared.reading.large_forms.Tail.TheVariants.{Least, End}
+use Rattle.tcc_cert.specs.declared.reading.large_forms.FooterLine.TheVariants.{Least, End}
 use Rattle.tcc_cert.specs.declared.version_3.TheConstants.{V3_MAX_COST, V3_MAX_COUNT, V3_MAX_NUMBER, V3_MAX_RUNS, V3_MAX_SESSION, V3_MAX_SESSIONS}
 use Rattle.tcc_cert.specs.Texts.{line_text, lines_text, link_lines, HasLinkText, IsCount}
 use Rattle.tcc_cert.specs.LargeTexts.{HasLargeText, HasLeastText, HasRunText, HasRunsClaimText, HaveRunsText}

@@ -13,13 +13,13 @@ use Rattle.tcc_cert.specs.declared.large.LargeCertificate.{LargeCertificate}
 use Rattle.tcc_cert.specs.declared.large.LinksClaim.{LinksClaim}
 use Rattle.tcc_cert.specs.declared.large.Run.{Run}
 use Rattle.tcc_cert.specs.declared.large.RunsClaim.{RunsClaim}
-use Rattle.tcc_cert.specs.declared.ranges.Scale.TheVariants.{Large}
+use Rattle.tcc_cert.specs.declared.ranges.TextFormat.TheVariants.{Large}
 use Rattle.tcc_cert.specs.declared.ranges.TheConstants.{MAX_HEADER_BYTES}
 use Rattle.tcc_cert.specs.declared.reading.forms.Sizes.{Sizes}
 use Rattle.tcc_cert.specs.declared.reading.forms.Sizes.TheVariants.{Order, Cycle}
 use Rattle.tcc_cert.specs.declared.reading.large_forms.LargeOrderSizes.{LargeOrderSizes}
-use Rattle.tcc_cert.specs.declared.reading.large_forms.Tail.{Tail}
-use Rattle.tcc_cert.specs.declared.reading.large_forms.Tail.TheVariants.{Least, End}
+use Rattle.tcc_cert.specs.declared.reading.large_forms.FooterLine.{FooterLine}
+use Rattle.tcc_cert.specs.declared.reading.large_forms.FooterLine.TheVariants.{Least, End}
 use Rattle.tcc_cert.specs.declared.version_3.TheConstants.{V3_MAX_NUMBER, V3_MAX_RUNS, V3_MAX_SESSION, V3_MAX_SESSIONS}
 use Rattle.tcc_cert.specs.Texts.{Words, line_text, lines_text, link_lines, HasLinkText, IsCount}
 use Rattle.tcc_cert.specs.LargeTexts.{HasLargeText, HasLeastText, HasLinksClaimText, HasRunText, HasRunsClaimText, HaveRunsText}
@@ -62,7 +62,7 @@ end-text at after done e =
     let line = words-text Large (word_line (codes "end")) at after done e in
     line.2 ∙ ap (λ ws. line_text ws ++ after.bytes) (mark (codes "end") line.0 done line.1)
 
--- the runs, of which there were so many, and the last line
+-- the runs, of which there were this many, and the last line
 runs-text : (count : ℕ) (at after : Position) (runs : List Run) → count ≤ V3_MAX_RUNS → runs_at count at ≡ Ok (runs, after)
     → HaveRunsText runs × (length runs ≡ count) × (at.bytes ≡ lines_text (runs_lines runs) ++ after.bytes)
 runs-text count at after runs few e =
@@ -85,9 +85,9 @@ runs-text count at after runs few e =
       text ∙ ap (λ p. lines_text (runs_lines first.0.0) ++ p.bytes) is.1,
     )
 
--- ---- what stands behind the links
+-- ---- what comes after the links
 
-abbrev IsTailText : Words → Tail → Type 0
+abbrev IsTailText : Words → FooterLine → Type 0
 IsTailText ws (Least r) = (r ≤ V3_MAX_RUNS) × (ws ≡ codes "least" ∷ decimal r ∷ [])
 IsTailText ws End = ws ≡ codes "end" ∷ []
 
@@ -101,13 +101,13 @@ no_part : {X : Type 0} (said : X) (ws : Words) (x : X) → no_words said ws ≡ 
 no_part said [] x e = (refl, same_ok e)
 no_part said (a ∷ ws) x e = absurd cc
 
-least-size : (a : List ℕ) (tail : Tail) → least_of a ≡ Ok tail → IsTailText (codes "least" ∷ a ∷ []) tail
+least-size : (a : List ℕ) (tail : FooterLine) → least_of a ≡ Ok tail → IsTailText (codes "least" ∷ a ∷ []) tail
 least-size a tail e =
     let runs = then_parts (runs_of a) _ tail e in
     let r = number-text 0 V3_MAX_RUNS a runs.0 (small V3_MAX_RUNS (lit≤ tt)) runs.1 in
     subst (IsTailText (codes "least" ∷ a ∷ [])) (same_ok runs.2) (r.high, ap (λ w. codes "least" ∷ w ∷ []) r.text)
 
-tail-choice : (word : List ℕ) (fields : Words) (tail : Tail)
+tail-choice : (word : List ℕ) (fields : Words) (tail : FooterLine)
     → ((word ≡ codes "least") × (one_word least_of fields ≡ Ok tail)) ⊎ ((word ≡ codes "end") × (no_words End fields ≡ Ok tail))
     → IsTailText (word ∷ fields) tail
 tail-choice word fields tail (inl is) =
@@ -117,13 +117,13 @@ tail-choice word fields tail (inr is) =
     let parts = no_part End fields tail is.1 in
     subst (IsTailText (word ∷ fields)) parts.1 (rw (is.0, parts.0) refl)
 
-tail-text : (ws : Words) (tail : Tail) → tail_line ws ≡ Ok tail → IsTailText ws tail
+tail-text : (ws : Words) (tail : FooterLine) → tail_line ws ≡ Ok tail → IsTailText ws tail
 tail-text [] tail e = absurd cc
 tail-text (word ∷ fields) tail e =
     tail-choice word fields tail (by_word-parts (codes "least") (codes "end") (one_word least_of) (no_words End) word fields tail e)
 
--- the line behind the links, and what stands behind it
-least-text : (ws : Words) (tail : Tail) (at middle after : Position) (least : Option (List Run)) → IsTailText ws tail → at.bytes ≡ line_text ws ++ middle.bytes
+-- the line after the links, and what comes after it
+least-text : (ws : Words) (tail : FooterLine) (at middle after : Position) (least : Option (List Run)) → IsTailText ws tail → at.bytes ≡ line_text ws ++ middle.bytes
     → least_at tail middle ≡ Ok (least, after)
     → HasLeastText least × (at.bytes ≡ lines_text (least_lines least) ++ after.bytes)
 least-text ws End at middle after least is text e =
@@ -164,7 +164,7 @@ order-sizes fields k e =
 
 -- ---- claims
 
--- a certificate that was read behind a first line
+-- a certificate that was read after a first line
 abbrev IsWhole : Level → List ℕ → List ℕ → LargeCertificate → Type 0
 IsWhole level text rest certificate =
     HasLargeText certificate × (large_header_of certificate ≡ large_header_words level) × (text ≡ lines_text (large_claim_lines certificate) ++ rest)

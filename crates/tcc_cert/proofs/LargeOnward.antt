@@ -8,14 +8,14 @@ use Rattle.tcc_cert.specs.declared.fault.CertFault.{CertFault}
 use Rattle.tcc_cert.specs.declared.large.LargeCertificate.{LargeCertificate}
 use Rattle.tcc_cert.specs.declared.large.LargeCertificate.TheVariants as claim
 use Rattle.tcc_cert.specs.declared.large.Run.{Run}
-use Rattle.tcc_cert.specs.declared.ranges.Scale.TheVariants.{Large}
+use Rattle.tcc_cert.specs.declared.ranges.TextFormat.TheVariants.{Large}
 use Rattle.tcc_cert.specs.declared.ranges.TheConstants.{MAX_HEADER_BYTES}
 use Rattle.tcc_cert.specs.declared.reading.input.Input.{Input}
 use Rattle.tcc_cert.specs.declared.reading.forms.Sizes.{Sizes}
 use Rattle.tcc_cert.specs.declared.reading.forms.Sizes.TheVariants.{Order, Cycle}
 use Rattle.tcc_cert.specs.declared.reading.large_forms.LargeOrderSizes.{LargeOrderSizes}
-use Rattle.tcc_cert.specs.declared.reading.large_forms.Tail.{Tail}
-use Rattle.tcc_cert.specs.declared.reading.large_forms.Tail.TheVariants.{Least, End}
+use Rattle.tcc_cert.specs.declared.reading.large_forms.FooterLine.{FooterLine}
+use Rattle.tcc_cert.specs.declared.reading.large_forms.FooterLine.TheVariants.{Least, End}
 use Rattle.tcc_cert.specs.InputBytes.{IsAt}
 use Rattle.tcc_cert.specs.private.Inputs.{Gives}
 use Rattle.tcc_cert.specs.Reading.{◌>>=◌, Position, Reads, link_at, next, repeated, word_line, words}
@@ -41,7 +41,7 @@ given-behind : {R A B : Type 0} (remaining : R → Option (List ℕ)) (at after 
 given-behind remaining at after read go x (Ok y) new is on (end, shown, there) = (end, then_ok go is ∙ shown, there)
 given-behind remaining at after read go x (Err fault) new is on faults = later-faults read go fault is on faults
 
--- a part was read, and what comes behind it was given
+-- a part was read, and what comes after it was given
 pub gives-then : {R A B : Type 0} (remaining : R → Option (List ℕ)) (at : Position) (read : Reads A) (go : A × Position → Reads B) (x : A) (between : Input R)
     (result : Result B CertFault) (new : Input R)
     → IsOnward at read → Gives remaining at read (Ok x) between → ((after : Position) → IsAt remaining between after → Gives remaining after (go (x, after)) result new)
@@ -63,7 +63,7 @@ behind-runs runs =
 pub onward-runs : (count : ℕ) (at : Position) → IsOnward at (runs_at count at)
 onward-runs count at = onward-then at (repeated (words Large run_line) count at) _ (onward-lines count at) behind-runs
 
-pub onward-least : (tail : Tail) (at : Position) → IsOnward at (least_at tail at)
+pub onward-least : (tail : FooterLine) (at : Position) → IsOnward at (least_at tail at)
 onward-least End at = onward-ok None at at (omega arith)
 onward-least (Least count) at =
     onward-then at (runs_at count at) _ (onward-runs count at) (λ runs. onward-ok (Some runs.0) runs.1 runs.1 (omega arith))
@@ -73,7 +73,7 @@ abbrev pub links_claim : Level → ℕ → ℕ → List Link → Option (List Ru
 links_claim level transactions cost links least =
     Ok (claim.Cycle (record { level = level; transactions = transactions; links = links; cost = cost; least = least.0 }), least.1)
 
-pub behind-tail : (level : Level) (transactions cost : ℕ) (links : List Link) (tail : Tail × Position)
+pub behind-tail : (level : Level) (transactions cost : ℕ) (links : List Link) (tail : FooterLine × Position)
     → IsOnward tail.1 (least_at tail.0 tail.1 >>= links_claim level transactions cost links)
 behind-tail level transactions cost links tail =
     onward-then tail.1 (least_at tail.0 tail.1) (links_claim level transactions cost links) (onward-least tail.0 tail.1)

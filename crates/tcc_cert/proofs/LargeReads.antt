@@ -1,4 +1,4 @@
--- What is answered of a whole text of version 3.
+-- What is returned for a whole text of version 3.
 use Rattle.std.proofs.Common.{◌≡◌, ℕ, List, [], Ok, Err, inl, inr, refl, arith, ap}
 use Rattle.tcc_cert.specs.declared.fault.CertFault.{CertFault}
 use Rattle.tcc_cert.specs.declared.fault.CertFaultKind.{CertFaultKind}
@@ -22,7 +22,7 @@ pub faults-read : {F : Type 0} (bytes : List ℕ) (fault : CertFault) → Faults
 faults-read bytes fault (inl is) = inl (rw is refl)
 faults-read bytes fault (inr cut) = inr (record { failure = failure fault.kind cut.failure; first = cut.first; last = cut.last })
 
--- a fault behind it
+-- a fault after it
 pub end-read : {R : Type 0} (bytes : List ℕ) (certificate : LargeCertificate) (after : Position) (fault : CertFault) (new : Input R)
     → large_certificate_at (start_of bytes) ≡ Ok (certificate, after) → Ends after (Err fault) new → IsLargeReading bytes (Err fault)
 end-read bytes certificate after fault new is (line, inl more) = inl (rw (is, some-left after.bytes more.1, line, more.0) refl)

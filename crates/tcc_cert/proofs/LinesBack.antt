@@ -1,6 +1,6 @@
 -- Lines are read one after the other as they were written.
 use Rattle.std.proofs.Common.{◌≡◌, ℕ, ◌+◌, ◌≤◌, List, [], ◌∷◌, ◌++◌, length, drop, flat_map, Result, Ok, refl, sym, ap, ◌∙◌, append_assoc, lit≤}
-use Rattle.tcc_cert.specs.declared.ranges.Scale.{Scale}
+use Rattle.tcc_cert.specs.declared.ranges.TextFormat.{TextFormat}
 use Rattle.tcc_cert.specs.Ranges.{ranges_at}
 use Rattle.std.specs.List.{AllByRecursion}
 use Rattle.std.proofs.lemmas.List.{drop_at, length-append}
@@ -37,7 +37,7 @@ words-above : (words : Words) → AreWords words → IsAbove 31 (words_text word
 words-above [] are = tt
 words-above (word ∷ words) are = IsAbove-append 31 word (later words) (IsAbove-less 32 31 word (lit≤ tt) are.1) (later-above words are.2)
 
-pub words-line : {X : Type 0} (v : Scale) (form : Words → Result X CertFaultKind) (n : ℕ) (line : Words) (rest : List ℕ) → AreWords line
+pub words-line : {X : Type 0} (v : TextFormat) (form : Words → Result X CertFaultKind) (n : ℕ) (line : Words) (rest : List ℕ) → AreWords line
     → length (words_text line) ≤ (ranges_at v).line_bytes → (x : X) → form line ≡ Ok x
     → words v form (at n (line_text line ++ rest)) ≡ Ok (x, at (n + 1) rest)
 words-line v form n line rest are short x is =
@@ -50,16 +50,16 @@ words-line v form n line rest are short x is =
     ) refl
 
 -- a value whose line is read as it
-pub record IsReadBack {X : Type 0} (v : Scale) (form : Words → Result X CertFaultKind) (spelled : X → Words) (x : X) : Type 0 where
+pub record IsReadBack {X : Type 0} (v : TextFormat) (form : Words → Result X CertFaultKind) (spelled : X → Words) (x : X) : Type 0 where
   pub are : AreWords (spelled x)
   pub short : length (words_text (spelled x)) ≤ (ranges_at v).line_bytes
   pub back : form (spelled x) ≡ Ok x
 
--- a value whose text is read as it, wherever it stands
+-- a value whose text is read as it, wherever it is
 abbrev pub IsReadAt : {X : Type 0} → (Position → Reads X) → (X → List ℕ) → X → Type 0
 IsReadAt read text x = (n : ℕ) (rest : List ℕ) → (end : ℕ) × (read (at n (text x ++ rest)) ≡ Ok (x, at end rest))
 
-pub line-at : {X : Type 0} (v : Scale) (form : Words → Result X CertFaultKind) (spelled : X → Words) (x : X) → IsReadBack v form spelled x
+pub line-at : {X : Type 0} (v : TextFormat) (form : Words → Result X CertFaultKind) (spelled : X → Words) (x : X) → IsReadBack v form spelled x
     → IsReadAt (words v form) (λ y. line_text (spelled y)) x
 line-at v form spelled x back n rest = (n + 1, words-line v form n (spelled x) rest back.are back.short x back.back)
 

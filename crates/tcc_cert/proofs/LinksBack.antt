@@ -2,7 +2,7 @@
 use Rattle.std.proofs.Common.{◌≡◌, ℕ, ◌+◌, ◌<◌, ◌≤◌, Bool, true, false, not, cond, eqb, ltb, List, [], ◌∷◌, ◌++◌, length, map}
 use Rattle.std.proofs.Common.{All, Option, Some, None, Ok, refl, ap, ◌∙◌, arith, append_assoc, append-nil, inl, inr, codes}
 use Rattle.std.proofs.Common.{decimal, lit<}
-use Rattle.tcc_cert.specs.declared.ranges.Scale.{Scale}
+use Rattle.tcc_cert.specs.declared.ranges.TextFormat.{TextFormat}
 use Rattle.tcc_cert.specs.Ranges.{ranges_at}
 use Rattle.std.specs.Prelude.{nat_le, position, option_map}
 use Rattle.std.specs.List.{AllByRecursion, prefix_len}
@@ -70,7 +70,7 @@ key-parts key h =
 
 -- ---- steps
 
-pub reads-back : (v : Scale) (a b : ℕ) (key : List ℕ) → HasStepText v (step.Reads a b key) → IsReadBack v (step_line v) step_words (step.Reads a b key)
+pub reads-back : (v : TextFormat) (a b : ℕ) (key : List ℕ) → HasStepText v (step.Reads a b key) → IsReadBack v (step_line v) step_words (step.Reads a b key)
 reads-back v a b key h =
     let k = key-parts key h.2 in
     let first = number-word v a h.0 in
@@ -92,7 +92,7 @@ reads-back v a b key h =
       back = rw (number-back v a h.0, number-back v b h.1, h.2) refl;
     }
 
-pub step-back : (v : Scale) (s : Step) → HasStepText v s → IsReadBack v (step_line v) step_words s
+pub step-back : (v : TextFormat) (s : Step) → HasStepText v s → IsReadBack v (step_line v) step_words s
 step-back v (step.Session a b) h = session-back v a b h
 step-back v (step.Reads a b key) h = reads-back v a b key h
 
@@ -102,24 +102,24 @@ pub each : {X : Type 0} {P Q : X → Type 0} (xs : List X) → ((x : X) → P x 
 each [] f all = tt
 each (x ∷ xs) f all = (f x all.0, each xs f all.1)
 
-pub walk-at : (v : Scale) (walk : List Step) → All (HasStepText v) walk → (n : ℕ) (rest : List ℕ)
+pub walk-at : (v : TextFormat) (walk : List Step) → All (HasStepText v) walk → (n : ℕ) (rest : List ℕ)
     → (end : ℕ) × (repeated (words v (step_line v)) (length walk) (at n (lines_text (map step_words walk) ++ rest)) ≡ Ok (walk, at end rest))
 walk-at v walk h n rest =
     rw (flat_map-map line_text step_words walk)
     (repeated-back (words v (step_line v)) (λ s. line_text (step_words s)) walk
     (each walk (λ s t. line-at v (step_line v) step_words s (step-back v s t)) (recursion_from_All (HasStepText v) walk h)) n rest)
 
-session-head : (v : Scale) (a b : ℕ) → HasStepText v (step.Session a b) → head_line v (step_words (step.Session a b)) ≡ Ok (head_of_step (step.Session a b))
+session-head : (v : TextFormat) (a b : ℕ) → HasStepText v (step.Session a b) → head_line v (step_words (step.Session a b)) ≡ Ok (head_of_step (step.Session a b))
 session-head v a b h = rw (number-back v a h.0, number-back v b h.1) refl
 
-reads-head : (v : Scale) (a b : ℕ) (key : List ℕ) → HasStepText v (step.Reads a b key)
+reads-head : (v : TextFormat) (a b : ℕ) (key : List ℕ) → HasStepText v (step.Reads a b key)
     → head_line v (step_words (step.Reads a b key)) ≡ Ok (head_of_step (step.Reads a b key))
 reads-head v a b key h = rw (number-back v a h.0, number-back v b h.1, h.2) refl
 
 abbrev derived_words : ℕ → ℕ → List ℕ → ℕ → ℕ → Words
 derived_words b a key c w = codes "D" ∷ decimal b ∷ decimal a ∷ key ∷ decimal c ∷ decimal w ∷ []
 
-derived-are : (v : Scale) (b a : ℕ) (key : List ℕ) (c w : ℕ) → IsNumber v b → IsNumber v a → IsKey key → IsNumber v c → IsCount v w
+derived-are : (v : TextFormat) (b a : ℕ) (key : List ℕ) (c w : ℕ) → IsNumber v b → IsNumber v a → IsKey key → IsNumber v c → IsCount v w
     → AreWords (derived_words b a key c w)
 derived-are v b a key c w hb ha hk hc hw =
     let k = key-parts key hk in
@@ -139,7 +139,7 @@ derived-are v b a key c w hb ha hk hc hw =
       ),
     )
 
-derived-short : (v : Scale) (b a : ℕ) (key : List ℕ) (c w : ℕ) → IsNumber v b → IsNumber v a → IsKey key → IsNumber v c → IsCount v w
+derived-short : (v : TextFormat) (b a : ℕ) (key : List ℕ) (c w : ℕ) → IsNumber v b → IsNumber v a → IsKey key → IsNumber v c → IsCount v w
     → length (words_text (derived_words b a key c w)) ≤ (ranges_at v).line_bytes
 derived-short v b a key c w hb ha hk hc hw =
     let k = key-parts key hk in
@@ -160,7 +160,7 @@ derived-short v b a key c w hb ha hk hc hw =
       steps,
     )
 
-derived-head : (v : Scale) (b a : ℕ) (key : List ℕ) (c w : ℕ) → IsNumber v b → IsNumber v a → IsKey key → IsNumber v c → IsCount v w
+derived-head : (v : TextFormat) (b a : ℕ) (key : List ℕ) (c w : ℕ) → IsNumber v b → IsNumber v a → IsKey key → IsNumber v c → IsCount v w
     → head_line v (derived_words b a key c w) ≡ Ok (record { link = link.Derived b a key c []; steps = w })
 derived-head v b a key c w hb ha hk hc hw =
     rw (
@@ -174,7 +174,7 @@ derived-head v b a key c w hb ha hk hc hw =
 one_line : (line rest : List ℕ) → (line ++ []) ++ rest ≡ line ++ rest
 one_line line rest = ap (λ l. l ++ rest) (append-nil line)
 
-pub link-back : (v : Scale) (l : Link) → HasLinkText v l → IsReadAt (link_at v) (λ m. lines_text (link_lines m)) l
+pub link-back : (v : TextFormat) (l : Link) → HasLinkText v l → IsReadAt (link_at v) (λ m. lines_text (link_lines m)) l
 link-back v (link.Session a b) h n rest =
     let back = session-back v a b h in
     let head = words-line v (head_line v) n (step_words (step.Session a b)) rest back.are back.short (head_of_step (step.Session a b)) (session-head v a b h) in

@@ -1,9 +1,9 @@
--- What is so of each item of a list by its number.
+-- What holds of each item of a list by its index.
 use Rattle.std.proofs.Common.{◌≡◌, ℕ, zero, suc, ◌+◌, ◌<◌, List, [], ◌∷◌, length, ap, ◌∙◌, arith}
 use Rattle.std.specs.List.{AllByRecursion}
 use Rattle.tcc_cert.specs.Tables.{row_of}
 
--- the items' numbers begin with this one
+-- the items' indices begin with this one
 abbrev pub EachFrom : {X : Type 0} → (ℕ → X → Type 0) → ℕ → List X → Type 0
 EachFrom P from [] = Unit {0}
 EachFrom P from (x ∷ xs) = P from x × EachFrom P (from + 1) xs

@@ -5,7 +5,7 @@ use Rattle.std.proofs.Common.{codes, decimal}
 use Rattle.tcc_graph.specs.declared.level.Level.{Level}
 use Rattle.tcc_graph.specs.declared.level.Level.TheVariants.{Causal, Atomic}
 use Rattle.tcc_cert.specs.declared.version.Version.{Version}
-use Rattle.tcc_cert.specs.declared.ranges.Scale.TheVariants.{Small}
+use Rattle.tcc_cert.specs.declared.ranges.TextFormat.TheVariants.{Small}
 use Rattle.tcc_cert.specs.declared.version.Version.TheVariants.{One, Two}
 use Rattle.tcc_cert.specs.declared.ranges.TheConstants.{MAX_HEADER_BYTES}
 use Rattle.tcc_cert.specs.Ranges.{ranges_of}
@@ -235,7 +235,7 @@ header-read at after header e =
 
 -- ---- certificates
 
--- a certificate that was read behind a first line
+-- a certificate that was read after a first line
 abbrev pub IsWhole : Version → Level → List ℕ → Certificate → Type 0
 IsWhole v level text certificate = HasText certificate × (header_of certificate ≡ header_words v level) × (text ≡ lines_text (claim_lines certificate))
 

@@ -3,7 +3,7 @@ use Rattle.std.proofs.Common.{◌≡◌, ◌⊎◌, ℕ, zero, suc, ◌+◌, ◌
 use Rattle.std.proofs.Common.{eqb, ltb, List, [], ◌∷◌, ◌++◌, length, get_or, take, drop, map, flat_map, Option}
 use Rattle.std.proofs.Common.{None, Some, Result, Ok, Err, inl, inr, refl, sym, ap, subst, ◌∙◌, arith, append_assoc}
 use Rattle.std.proofs.Common.{append-nil, codes, decimal}
-use Rattle.tcc_cert.specs.declared.ranges.Scale.{Scale}
+use Rattle.tcc_cert.specs.declared.ranges.TextFormat.{TextFormat}
 use Rattle.tcc_cert.specs.declared.ranges.TheConstants.{MAX_HEADER_BYTES}
 use Rattle.tcc_cert.specs.Ranges.{ranges_at}
 use Rattle.std.specs.Prelude.{is_some}
@@ -27,7 +27,7 @@ use Rattle.tcc_graph.specs.declared.link.Link.{Link}
 use Rattle.tcc_graph.specs.declared.link.Link.TheVariants as link
 use Rattle.tcc_cert.specs.declared.fault.CertFaultKind.{CertFaultKind}
 use Rattle.tcc_cert.specs.declared.fault.CertFaultKind.TheVariants.{Word, Number, Count, TooLarge, Truncated, Trailing}
-use Rattle.tcc_cert.specs.declared.reading.forms.Head.{Head}
+use Rattle.tcc_cert.specs.declared.reading.forms.HeaderLine.{HeaderLine}
 use Rattle.tcc_cert.specs.Texts.{Words, words_text, line_text, lines_text, numbers_words}
 use Rattle.tcc_cert.specs.Texts.{step_words, link_lines, IsNumber, IsCount, IsKey, HasStepText}
 use Rattle.tcc_cert.specs.Texts.{HasLinkText}
@@ -61,7 +61,7 @@ same_pair {A} {B} {E} {a} {c} {b} {d} e =
     let pair : (a, b) ≡ (c, d) = same_ok e in
     (ap (λ p. p.0) pair, ap (λ p. p.1) pair)
 
--- the first line of a text that was read, what comes behind it, and that nothing stands behind that
+-- the first line of a text that was read, what comes after it, and that nothing comes after that
 pub record IsWholeText {H X : Type 0} (form : List ℕ → Result H CertFaultKind) (behind : H × Position → Reads X) (bytes : List ℕ) (x : X) : Type 0 where
   pub header : H × Position
   pub after : Position
@@ -124,10 +124,10 @@ number-text least most word n small e =
     decimal-digits_value (numerals_by_value _ tells_all_ascii_digits) word parts.1 some (λ is_zero. lone-zero word parts.2 is_zero some) (omega arith) in
     record { low = omega arith; high = omega arith; text = sym spelled ∙ ap decimal is }
 
-pub number : (v : Scale) (word : List ℕ) (n : ℕ) → transaction_of v word ≡ Ok n → IsNumeralOf 0 (ranges_at v).number word n
+pub number : (v : TextFormat) (word : List ℕ) (n : ℕ) → transaction_of v word ≡ Ok n → IsNumeralOf 0 (ranges_at v).number word n
 number v word n e = number-text 0 (ranges_at v).number word n (omega (arith, numbers v)) e
 
-pub count : (v : Scale) (word : List ℕ) (n : ℕ) → count_of v word ≡ Ok n → (word ≡ decimal n) × IsCount v n
+pub count : (v : TextFormat) (word : List ℕ) (n : ℕ) → count_of v word ≡ Ok n → (word ≡ decimal n) × IsCount v n
 count v word n e =
     let is = number-text 1 (ranges_at v).count word n (omega (arith, counts v)) e in
     (is.text, record { some = is.low; limit = is.high })
@@ -204,7 +204,7 @@ more_equal p q = cc
 
 -- ---- steps
 
-session : (scale : Scale) (u v : List ℕ) (s : Step) → session_of scale u v ≡ Ok s → HasStepText scale s × (codes "S" ∷ u ∷ v ∷ [] ≡ step_words s)
+session : (scale : TextFormat) (u v : List ℕ) (s : Step) → session_of scale u v ≡ Ok s → HasStepText scale s × (codes "S" ∷ u ∷ v ∷ [] ≡ step_words s)
 session scale u v s e =
     let first = then_parts (transaction_of scale u) _ s e in
     let second = then_parts (transaction_of scale v) _ s first.2 in
@@ -212,7 +212,7 @@ session scale u v s e =
     let b = number scale v second.0 second.1 in
     subst (λ t. HasStepText scale t × (codes "S" ∷ u ∷ v ∷ [] ≡ step_words t)) (same_ok second.2) ((a.high, b.high), two_equal (codes "S") a.text b.text)
 
-reads : (scale : Scale) (u v w : List ℕ) (s : Step) → reads_of scale u v w ≡ Ok s → HasStepText scale s × (codes "R" ∷ u ∷ v ∷ w ∷ [] ≡ step_words s)
+reads : (scale : TextFormat) (u v w : List ℕ) (s : Step) → reads_of scale u v w ≡ Ok s → HasStepText scale s × (codes "R" ∷ u ∷ v ∷ w ∷ [] ≡ step_words s)
 reads scale u v w s e =
     let first = then_parts (transaction_of scale u) _ s e in
     let second = then_parts (transaction_of scale v) _ s first.2 in
@@ -240,7 +240,7 @@ by_word-parts {X} one other behind_one behind_other word fields x e = by (choice
         let parts = allowed_parts (same word other) Word (behind_other fields) x is.1 in
         inr (same-bytes word other parts.0, parts.1)
 
-step-choice : (scale : Scale) (word : List ℕ) (fields : Words) (s : Step)
+step-choice : (scale : TextFormat) (word : List ℕ) (fields : Words) (s : Step)
     → ((word ≡ codes "S") × (two_words (session_of scale) fields ≡ Ok s)) ⊎ ((word ≡ codes "R") × (three_words (reads_of scale) fields ≡ Ok s))
     → HasStepText scale s × (word ∷ fields ≡ step_words s)
 step-choice scale word fields s (inl is) =
@@ -252,7 +252,7 @@ step-choice scale word fields s (inr is) =
     let read = reads scale parts.0 parts.1 parts.2 s parts.4 in
     (read.0, rw (is.0, parts.3) read.1)
 
-pub step-text : (scale : Scale) (ws : Words) (s : Step) → step_line scale ws ≡ Ok s → HasStepText scale s × (ws ≡ step_words s)
+pub step-text : (scale : TextFormat) (ws : Words) (s : Step) → step_line scale ws ≡ Ok s → HasStepText scale s × (ws ≡ step_words s)
 step-text scale [] s e = absurd cc
 step-text scale (word ∷ fields) s e =
     step-choice scale word fields s
@@ -298,7 +298,7 @@ judged-parts at after (Ok y) x end e =
     (ap Ok is.0, is.1)
 judged-parts at after (Err kind) x end e = absurd cc
 
--- a line and its line feed stand before what is behind it
+-- the bytes are a line, its line feed, and what comes after it
 pub line-text : (most : ℕ) (bytes line : List ℕ) → line_of most bytes ≡ Ok line → bytes ≡ line ++ 10 ∷ drop (length line + 1) bytes
 line-text most bytes line e =
     let n = line_length bytes in
@@ -319,14 +319,14 @@ next-text most form at after x e =
     let shown = judged-parts at (behind at first.0.0) (form first.0.0) x after first.2 in
     (first.0.0, shown.0, line-text most at.bytes first.0.0 line.0 ∙ ap (λ p. first.0.0 ++ 10 ∷ p.bytes) shown.1)
 
-pub words-text : {X : Type 0} (v : Scale) (form : Words → Result X CertFaultKind) (at after : Position) (x : X) → words v form at ≡ Ok (x, after)
+pub words-text : {X : Type 0} (v : TextFormat) (form : Words → Result X CertFaultKind) (at after : Position) (x : X) → words v form at ≡ Ok (x, after)
     → (ws : Words) × (form ws ≡ Ok x) × (at.bytes ≡ line_text ws ++ after.bytes)
 words-text v form at after x e =
     let read = next-text (ranges_at v).line_bytes (λ line. form (words_of line)) at after x e in
     let split = append_assoc (words_text (words_of read.0)) (10 ∷ []) after.bytes in
     (words_of read.0, read.1, read.2 ∙ ap (λ l. l ++ 10 ∷ after.bytes) (sym (words-back read.0)) ∙ sym split)
 
--- ---- parts so many times
+-- ---- parts that are repeated
 
 -- what is read has this property, and was read from this text
 abbrev pub IsReadFrom : {X : Type 0} → (Position → Reads X) → (X → Type 0) → (X → List ℕ) → Type 0
@@ -358,14 +358,14 @@ repeated-text read property text from n at after xs e =
 
 -- ---- links
 
-pub step-from : (scale : Scale) → IsReadFrom (words scale (step_line scale)) (HasStepText scale) (λ s. line_text (step_words s))
+pub step-from : (scale : TextFormat) → IsReadFrom (words scale (step_line scale)) (HasStepText scale) (λ s. line_text (step_words s))
 step-from scale at after s e =
     let line = words-text scale (step_line scale) at after s e in
     let is = step-text scale line.0 s line.1 in
     (is.0, line.2 ∙ ap (λ ws. line_text ws ++ after.bytes) is.1)
 
 -- what the first line of a link says
-pub record IsDerivedHead (scale : Scale) (ws : Words) (head : Head) : Type 0 where
+pub record IsDerivedHead (scale : TextFormat) (ws : Words) (head : HeaderLine) : Type 0 where
   pub b : ℕ
   pub a : ℕ
   pub name : List ℕ
@@ -379,13 +379,13 @@ pub record IsDerivedHead (scale : Scale) (ws : Words) (head : Head) : Type 0 whe
   pub text : ws ≡ codes "D" ∷ decimal b ∷ decimal a ∷ name ∷ decimal c ∷ decimal w ∷ []
   pub is : head ≡ record { link = link.Derived b a name c []; steps = w }
 
-pub record IsStepHead (scale : Scale) (ws : Words) (head : Head) : Type 0 where
+pub record IsStepHead (scale : TextFormat) (ws : Words) (head : HeaderLine) : Type 0 where
   pub step_of : Step
   pub has : HasStepText scale step_of
   pub text : ws ≡ step_words step_of
   pub is : head ≡ head_of_step step_of
 
-derived : (scale : Scale) (t u v w x : List ℕ) (head : Head) → derived_of scale t u v w x ≡ Ok head
+derived : (scale : TextFormat) (t u v w x : List ℕ) (head : HeaderLine) → derived_of scale t u v w x ≡ Ok head
     → IsDerivedHead scale (codes "D" ∷ t ∷ u ∷ v ∷ w ∷ x ∷ []) head
 derived scale t u v w x head e =
     let first = then_parts (transaction_of scale t) _ head e in
@@ -413,7 +413,7 @@ derived scale t u v w x head e =
       is = sym (same_ok fifth.2);
     }
 
-head-choice : (scale : Scale) (word : List ℕ) (fields : Words) (head : Head)
+head-choice : (scale : TextFormat) (word : List ℕ) (fields : Words) (head : HeaderLine)
     → ((same word (codes "D") ≡ true) × (five_words (derived_of scale) fields ≡ Ok head))
     ⊎ ((same word (codes "D") ≡ false) × ((step_line scale (word ∷ fields) >>= λ s. Ok (head_of_step s)) ≡ Ok head))
     → IsDerivedHead scale (word ∷ fields) head ⊎ IsStepHead scale (word ∷ fields) head
@@ -425,13 +425,13 @@ head-choice scale word fields head (inr is) =
     let read = step-text scale (word ∷ fields) parts.0 parts.1 in
     inr (record { step_of = parts.0; has = read.0; text = read.1; is = sym (same_ok parts.2) })
 
-pub head-text : (scale : Scale) (ws : Words) (head : Head) → head_line scale ws ≡ Ok head → IsDerivedHead scale ws head ⊎ IsStepHead scale ws head
+pub head-text : (scale : TextFormat) (ws : Words) (head : HeaderLine) → head_line scale ws ≡ Ok head → IsDerivedHead scale ws head ⊎ IsStepHead scale ws head
 head-text scale [] head e = absurd cc
 head-text scale (word ∷ fields) head e =
     head-choice scale word fields head (choice (same word (codes "D")) (five_words (derived_of scale) fields) _ (Ok head) e)
 
 -- a link of one step
-one-step : (scale : Scale) (s : Step) (at mid after : Position) (l : Link) → HasStepText scale s → at.bytes ≡ line_text (step_words s) ++ mid.bytes
+one-step : (scale : TextFormat) (s : Step) (at mid after : Position) (l : Link) → HasStepText scale s → at.bytes ≡ line_text (step_words s) ++ mid.bytes
     → walk_of scale (head_of_step s, mid) ≡ Ok (l, after)
     → HasLinkText scale l × (at.bytes ≡ lines_text (link_lines l) ++ after.bytes)
 one-step scale (step.Session u v) at mid after l has text e =
@@ -449,7 +449,7 @@ one-step scale (step.Reads u v k) at mid after l has text e =
           ∙ ap (λ p. lines_text (link_lines (link.Reads u v k)) ++ p.bytes) is.1,
     )
 
-link-choice : (scale : Scale) (ws : Words) (head : Head) (at mid after : Position) (l : Link) → at.bytes ≡ line_text ws ++ mid.bytes
+link-choice : (scale : TextFormat) (ws : Words) (head : HeaderLine) (at mid after : Position) (l : Link) → at.bytes ≡ line_text ws ++ mid.bytes
     → walk_of scale (head, mid) ≡ Ok (l, after) → IsDerivedHead scale ws head ⊎ IsStepHead scale ws head
     → HasLinkText scale l × (at.bytes ≡ lines_text (link_lines l) ++ after.bytes)
 link-choice scale ws head at mid after l text e (inr h) =
@@ -478,7 +478,7 @@ link-choice scale ws head at mid after l text e (inl h) =
     subst (λ m. HasLinkText scale m × (at.bytes ≡ lines_text (link_lines m) ++ after.bytes)) is.0
     (has, whole ∙ ap (λ p. lines_text (link_lines (derived_link walk)) ++ p.bytes) is.1)
 
-pub link-from : (scale : Scale) → IsReadFrom (link_at scale) (HasLinkText scale) (λ l. lines_text (link_lines l))
+pub link-from : (scale : TextFormat) → IsReadFrom (link_at scale) (HasLinkText scale) (λ l. lines_text (link_lines l))
 link-from scale at after l e =
     let head = then_parts (words scale (head_line scale) at) (walk_of scale) (l, after) e in
     let line = words-text scale (head_line scale) at head.0.1 head.0.0 head.1 in

@@ -1,9 +1,9 @@
 -- Reading goes on from line to line, and never back.
 use Rattle.std.proofs.Common.{ℕ, zero, suc, ◌+◌, ◌≤◌, List, [], ◌∷◌, Result, Ok, Err, arith}
-use Rattle.tcc_cert.specs.declared.ranges.Scale.{Scale}
+use Rattle.tcc_cert.specs.declared.ranges.TextFormat.{TextFormat}
 use Rattle.tcc_cert.specs.Ranges.{ranges_at}
 use Rattle.tcc_cert.specs.declared.fault.CertFaultKind.{CertFaultKind}
-use Rattle.tcc_cert.specs.declared.reading.forms.Head.{Head}
+use Rattle.tcc_cert.specs.declared.reading.forms.HeaderLine.{HeaderLine}
 use Rattle.tcc_cert.specs.private.Onward.{IsOnward}
 use Rattle.tcc_cert.specs.Texts.{Words}
 use Rattle.tcc_cert.specs.Reading.{◌>>=◌, Position, Reads, judged, behind, line_of, next, words}
@@ -38,17 +38,17 @@ onward-numbered read from (suc n) on at =
     _ (onward-numbered read (from + 1) n on first.1)
     (λ others. onward-ok (first.0 ∷ others.0) others.1 others.1 (omega arith)))
 
-pub onward-words : {X : Type 0} (scale : Scale) (form : Words → Result X CertFaultKind) (at : Position) → IsOnward at (words scale form at)
+pub onward-words : {X : Type 0} (scale : TextFormat) (form : Words → Result X CertFaultKind) (at : Position) → IsOnward at (words scale form at)
 onward-words scale form at = onward-next (ranges_at scale).line_bytes (λ line. form (words_of line)) at
 
-pub onward-steps : (scale : Scale) (count : ℕ) (at : Position) → IsOnward at (repeated (words scale (step_line scale)) count at)
+pub onward-steps : (scale : TextFormat) (count : ℕ) (at : Position) → IsOnward at (repeated (words scale (step_line scale)) count at)
 onward-steps scale count at = onward-numbered (λ i. words scale (step_line scale)) 0 count (λ i position. onward-words scale (step_line scale) position) at
 
-pub onward-walk : (scale : Scale) (head : Head × Position) → IsOnward head.1 (walk_of scale head)
+pub onward-walk : (scale : TextFormat) (head : HeaderLine × Position) → IsOnward head.1 (walk_of scale head)
 onward-walk scale head =
     onward-then head.1 (repeated (words scale (step_line scale)) head.0.steps head.1) _ (onward-steps scale head.0.steps head.1)
     (λ walk. onward-ok (with_walk head.0.link walk.0) walk.1 walk.1 (omega arith))
 
-pub onward-link : (scale : Scale) (at : Position) → IsOnward at (link_at scale at)
+pub onward-link : (scale : TextFormat) (at : Position) → IsOnward at (link_at scale at)
 onward-link scale at =
     onward-then at (words scale (head_line scale) at) (walk_of scale) (onward-words scale (head_line scale) at) (onward-walk scale)

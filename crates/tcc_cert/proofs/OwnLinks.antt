@@ -1,4 +1,4 @@
--- The links of a cycle of the history are right, and their numbers are below that of its transactions.
+-- The links of a cycle of the history are right, and their numbers are below its count of transactions.
 use Rattle.std.proofs.Common.{◌≡◌, ℕ, List, [], ◌∷◌, ◌++◌, sym, ap, subst, ◌∙◌, arith}
 use Rattle.std.specs.List.{All}
 use Rattle.std.proofs.lemmas.List.Elements.{All-cons}

@@ -8,7 +8,7 @@ use Rattle.tcc_graph.specs.declared.level.Level.TheVariants.{Causal, Atomic}
 use Rattle.tcc_graph.specs.declared.link.Link.{Link}
 use Rattle.tcc_cert.specs.declared.ranges.TheConstants.{MAX_HEADER_BYTES}
 use Rattle.tcc_cert.specs.declared.version.Version.{Version}
-use Rattle.tcc_cert.specs.declared.ranges.Scale.TheVariants.{Small}
+use Rattle.tcc_cert.specs.declared.ranges.TextFormat.TheVariants.{Small}
 use Rattle.tcc_cert.specs.declared.fault.CertFault.{CertFault}
 use Rattle.tcc_cert.specs.declared.certificate.Certificate.{Certificate}
 use Rattle.tcc_cert.specs.declared.certificate.Certificate.TheVariants as claim
@@ -34,7 +34,7 @@ told-end : (front : List Part) (version : Version) (c : Certificate) (at : Posit
     → IsTold parts_of front (words (Small version) (word_line (codes "end")) at >>= λ end. Ok (c, end.1)) (end_parts version at)
 told-end front version c at is = told-behind parts_of front (words (Small version) (word_line (codes "end")) at) _ _ (λ end. told-ended parts_of front c end.1 is)
 
--- what stands before the clocks
+-- what comes before the clocks
 abbrev head_of : Version → Level → ℕ → List ℕ → OrderHead
 head_of version level s order = record { version = version; level = level; order = order; sessions = s }
 
@@ -136,7 +136,7 @@ read-fault bytes fault kind line = fault-of parts_of (certificate_read bytes) (p
 pub line-reached : (bytes : List ℕ) → (parts_read bytes).line ≡ reached (certificate_at (start_of bytes))
 line-reached bytes = reached-of parts_of (certificate_at (start_of bytes)) (parts_read bytes) (told-whole (start_of bytes))
 
--- whatever is answered, no line before it has a fault
+-- whatever fault is returned, no line before it has one
 pub first-fault : (bytes : List ℕ) (answered first : CertFault) → IsReading bytes (Err answered) → certificate_read bytes ≡ Err first
     → answered.line ≤ first.line
 first-fault bytes answered first (inl is) read =

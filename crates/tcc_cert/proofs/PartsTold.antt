@@ -1,4 +1,4 @@
--- The parts of what is read, told as they come: those of the value, and then the end, or the fault of its reading.
+-- The parts of what is read, as they come: those of the value, and then the end, or the fault of its reading.
 use Rattle.std.proofs.Common.{◌≡◌, ℕ, zero, suc, ◌+◌, Bool, true, false, cond, eqb, length, List, [], ◌∷◌, ◌++◌}
 use Rattle.std.proofs.Common.{Option, None, Some, Result, Ok, Err, refl, sym, ap, subst, ◌∙◌, append_assoc, append-nil}
 use Rattle.std.specs.Prelude.{map}
@@ -9,7 +9,7 @@ use Rattle.tcc_cert.specs.Outcomes.{reached}
 use Rattle.tcc_cert.specs.Parts.{◌>>>◌, PartsOf, after_part, ended_parts, rows_then}
 use Rattle.tcc_cert.specs.Reading.{◌>>=◌, Position, Reads, ended, numbered}
 
--- the fault of what stands behind the end
+-- the fault of what comes after the end
 abbrev pub fault_behind : Position → Option CertFaultKind
 fault_behind at = cond (eqb (length at.bytes) 0) None (Some Trailing)
 
@@ -17,7 +17,7 @@ pub bind-assoc : {A B C : Type 0} (read : Reads A) (f : A × Position → Reads 
 bind-assoc (Ok x) f g = refl
 bind-assoc (Err fault) f g = refl
 
--- what was read has these parts behind others, and the text ends as they do
+-- what was read has these parts after others, and the text ends as they do
 abbrev pub IsTold : {C P : Type 0} → (C → List P) → List P → Reads C → PartsOf P → Type 0
 IsTold parts_of front (Ok read) told = (parts_of read.0 ≡ front ++ told.parts) × (told.line ≡ read.1.line) × (told.fault ≡ fault_behind read.1)
 IsTold parts_of front (Err fault) told = (told.line ≡ fault.line) × (told.fault ≡ Some fault.kind)
@@ -58,7 +58,7 @@ module _ {C P : Type 0} (parts_of : C → List P) where
       (λ rows after long. subst (λ l. IsTold parts_of l (go (first.0 ∷ rows, after)) (behind after)) (sym (append_assoc front (form first.0 ∷ []) (map form rows)))
       (later (first.0 ∷ rows) after (ap suc long)))))))
 
-  -- nothing was to be read any more
+  -- nothing was left to read
   pub told-ended : (front : List P) (c : C) (at : Position) → parts_of c ≡ front → IsTold parts_of front (Ok (c, at)) (ended_parts at)
   told-ended front c at is = (is ∙ sym (append-nil front), refl, refl)
 

@@ -44,7 +44,7 @@ IsAbove-less low less (byte ∷ s) le p = (omega (arith, p.0), IsAbove-less low 
 unequal : (low byte other : ℕ) → other ≤ low → low < byte → eqb byte other ≡ false
 unequal low byte other le lt = grind (arith, nat_tests)
 
--- the first line feed is that behind the line
+-- the first line feed is that after the line
 first_feed : (line rest : List ℕ) → IsAbove 31 line → line_length (line ++ 10 ∷ rest) ≡ length line
 first_feed [] rest above = refl
 first_feed (byte ∷ line) rest above = rw (unequal 31 byte 10 (lit≤ tt) above.0) (ap (λ n. 1 + n) (first_feed line rest above.1) ∙ omega arith)
@@ -74,7 +74,7 @@ abbrev pub AreWords : Words → Type 0
 AreWords [] = Unit {0}
 AreWords (word ∷ words) = (0 < length word) × IsAbove 32 word × AreWords words
 
--- words behind spaces
+-- words after spaces
 abbrev pub later : Words → List ℕ
 later words = flat_map (λ word. 32 ∷ word) words
 
@@ -88,7 +88,7 @@ words_of-words [] are = refl
 words_of-words ([] ∷ words) are = absurd (omega (arith, are.0))
 words_of-words ((byte ∷ word) ∷ words) are = parted-words (byte ∷ word) words are.1 are.2
 
--- words of at most so many bytes, each behind a space
+-- words of at most this many bytes, each after a space
 later-short : (most : ℕ) (words : Words) → AllByRecursion (λ word. length word ≤ most) words → length (later words) ≤ (most + 1) * length words
 later-short most [] short = omega arith
 later-short most (word ∷ words) short =

@@ -1,4 +1,4 @@
--- Runs that are told one transaction after the other.
+-- Runs that are made one transaction after the other.
 use Rattle.std.proofs.Common.{◌≡◌, ℕ, suc, ◌+◌, ◌<◌, ◌≤◌, ◌&&◌, Bool, true, false, cond, eqb, List, [], ◌∷◌, ◌++◌, length, drop, get_or}
 use Rattle.std.proofs.Common.{Option, None, Some, refl, sym, ap, subst, ◌∙◌, arith, append_assoc}
 use Rattle.std.specs.Prelude.{nat_lt}
@@ -15,7 +15,7 @@ use Rattle.tcc_cert.specs.declared.version_3.TheConstants.{V3_MAX_COUNT, V3_MAX_
 use Rattle.tcc_cert.specs.LargeTexts.{HasRunText, HasRunsClaimText}
 use Rattle.tcc_cert.specs.RunsTold.{before_runs, order_claim_of, runs_told, with_first}
 
--- the last run that was told, before those that are still to be told
+-- the last run so far, before those that are still to come
 abbrev pub behind_last : Option Run → List Run → List Run
 behind_last None runs = runs
 behind_last (Some run) runs = before_runs run runs
@@ -58,7 +58,7 @@ another run session (next ∷ runs) other = another-next run session next runs (
 -- ---- one more of an order
 
 module _ (h : History) (order : List ℕ) (i d : ℕ) (lt : i < length order) (done : List Run) where
-  -- what is told by the transaction at i, and by those behind it
+  -- the runs of the transaction at i and of those after it
   next : (place : Option (ℕ × ℕ)) → at h (get_or order i d) ≡ place → runs_told h (drop i order) ≡ with_first place (runs_told h (drop (i + 1) order))
   next place is = at_drop_more (runs_told h) order i d lt ∙ ap (λ p. with_first p (runs_told h (drop (i + 1) order))) is
 
@@ -97,7 +97,7 @@ module _ (h : History) (order : List ℕ) (i d : ℕ) (lt : i < length order) (d
       ∙ ap (λ runs. done ++ runs) (another run session rest other)
       ∙ sym (append_assoc done (run ∷ []) (before_runs (one_of session) rest))
 
--- all were told
+-- every transaction is in a run
 pub told-all : (h : History) (order : List ℕ) (i : ℕ) (done : List Run) (last : Option Run) → length order ≤ i
     → runs_told h order ≡ done ++ behind_last last (runs_told h (drop i order)) → runs_told h order ≡ done ++ behind_last last []
 told-all h order i done last le before = before ∙ ap (λ left. done ++ behind_last last (runs_told h left)) (drop_all i order le)

@@ -66,7 +66,7 @@ IsSent-bare (Err e) a b t whole (n, part) =
 pub Stops-out : {a b c : Option (List ℕ)} {f g t : List ℕ} → Sends a f b g t → Stops b g c [] → Stops a f c t
 Stops-out {a} {b} {c} {f} {g} {t} p q = subst (Stops a f c) (append-nil t) (Stops-then p q)
 
--- where nothing was held, a part of the text went out, or the whole
+-- where nothing was held, a part of the text was written, or the whole
 pub Appends-part : {a b : Option (List ℕ)} {t : List ℕ} → Stops a [] b t → (n : ℕ) × Appends a b (take n t)
 Appends-part {a} {b} {t} (left, p) =
     (length p.sent, subst (Appends a b) (sym (ap (take (length p.sent)) p.whole ∙ take_at p.sent left (length p.sent) refl)) p.appended)
@@ -74,7 +74,7 @@ Appends-part {a} {b} {t} (left, p) =
 pub Appends-whole : {a b : Option (List ℕ)} {t : List ℕ} → Sends a [] b [] t → Appends a b t
 Appends-whole {a} {b} {t} p = subst (Appends a b) (sym (p.whole ∙ append-nil p.sent)) p.appended
 
--- a part went out where nothing was held, and the rest was still to be sent
+-- a part was written where nothing was held, and the rest was still to be sent
 pub part_out : {X E : Type 0} (r : Result X E) (a b c : Option (List ℕ)) (g h t : List ℕ) → Sends a [] b g t → IsSent r b g c h []
     → OnErr r ((n : ℕ) × Appends a c (take n t))
 part_out (Ok x) a b c g h t p q = tt

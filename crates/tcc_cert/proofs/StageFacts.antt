@@ -5,7 +5,7 @@ use Rattle.tcc_graph.specs.declared.level.Level.{Level}
 use Rattle.tcc_graph.specs.declared.level.Level.TheVariants.{Causal, Atomic}
 use Rattle.tcc_cert.specs.declared.ranges.TheConstants.{MAX_HEADER_BYTES}
 use Rattle.tcc_cert.specs.declared.version.Version.{Version}
-use Rattle.tcc_cert.specs.declared.ranges.Scale.TheVariants.{Small}
+use Rattle.tcc_cert.specs.declared.ranges.TextFormat.TheVariants.{Small}
 use Rattle.tcc_cert.specs.declared.fault.CertFault.{CertFault}
 use Rattle.tcc_graph.specs.declared.link.Link.{Link}
 use Rattle.tcc_cert.specs.declared.part.Part.{Part}
@@ -17,8 +17,8 @@ use Rattle.tcc_cert.specs.declared.reading.input.Input.{Input}
 use Rattle.tcc_cert.specs.declared.reading.shape.TableShape.{TableShape}
 use Rattle.tcc_cert.specs.declared.reading.shape.TableShape.TheVariants as shape
 use Rattle.tcc_cert.specs.declared.reading.stages.Stage.{Stage}
-use Rattle.tcc_cert.specs.declared.reading.stages.Coming.{Coming}
-use Rattle.tcc_cert.specs.declared.reading.stages.Coming.TheVariants as coming
+use Rattle.tcc_cert.specs.declared.reading.stages.ExpectedPart.{ExpectedPart}
+use Rattle.tcc_cert.specs.declared.reading.stages.ExpectedPart.TheVariants as coming
 use Rattle.tcc_cert.specs.Ranges.{ranges_of}
 use Rattle.tcc_cert.specs.private.Inputs.{Ends}
 use Rattle.tcc_cert.specs.InputBytes.{HasFailed}
@@ -101,13 +101,13 @@ onward-behind header =
 pub onward-whole : (at : Position) → at.line ≤ (whole_parts at).line
 onward-whole at = onward-then at (next MAX_HEADER_BYTES header_line at) parts_behind (onward-next MAX_HEADER_BYTES header_line at) onward-behind
 
-pub onward-coming : (s : Coming) (at : Position) (ahead : Parts) → IsBehind s at ahead → at.line ≤ ahead.line
+pub onward-coming : (s : ExpectedPart) (at : Position) (ahead : Parts) → IsBehind s at ahead → at.line ≤ ahead.line
 onward-coming coming.Whole at ahead is = rw is (onward-whole at)
 onward-coming (coming.Links left) at ahead is = rw is.1 (onward-links left.version left.transactions is.0 left.many at)
 onward-coming (coming.Mark version table) at ahead is = rw is (onward-marked version table at)
 onward-coming (coming.Rows left) at ahead is = rw is.2 (onward-table left.version left.table is.0 left.many at)
 
--- ---- what comes of a part
+-- ---- the result of a part
 
 -- it had a fault
 pub part-faults : {A F P : Type 0} {at : Position} (read : Reads A) (behind : A × Position → PartsOf P) (fault : CertFault)
@@ -129,7 +129,7 @@ step-earlier : {R : Type 0} (remaining : R → Option (List ℕ)) (wanted earlie
 step-earlier remaining wanted earlier ahead (Ok given) new le taken = taken
 step-earlier remaining wanted earlier ahead (Err fault) new le faults = wanted-earlier wanted earlier ahead fault le faults
 
--- it was read, and what comes behind it is given
+-- it was read, and what comes after it is given
 pub part-then : {A R : Type 0} (remaining : R → Option (List ℕ)) (at : Position) {after : Position} {x : A} (read : Reads A) (behind : A × Position → Parts)
     (result : Result (Part × Stage) CertFault) (new : Input R)
     → read ≡ Ok (x, after) → at.line ≤ after.line → TakesStep remaining after.line (behind (x, after)) result new
@@ -147,7 +147,7 @@ sizes-then remaining version level at result new is taken =
     part-then remaining at (words (Small version) (sizes_line (Small version)) at) (λ sizes. claim_parts version level sizes.0 sizes.1) result new is
     (onward-at (words (Small version) (sizes_line (Small version)) at) (onward-words (Small version) (sizes_line (Small version)) at) is) taken
 
--- the line before the rows had a fault, or was read, and what comes behind it is given
+-- the line before the rows had a fault, or was read, and what comes after it is given
 pub mark-faults : {F : Type 0} (version : Version) (word : List ℕ) (behind : Position → Parts) (at : Position) (fault : CertFault)
     → ((p : Position) → p.line ≤ (behind p).line) → Faults F at (words (Small version) (word_line word) at) fault
     → FaultsIn F at.line (words (Small version) (word_line word) at >>> λ mark. behind mark.1) fault
@@ -162,7 +162,7 @@ mark-then remaining version word behind at result new is taken =
     part-then remaining at (words (Small version) (word_line word) at) (λ mark. behind mark.1) result new is
     (onward-at (words (Small version) (word_line word) at) (onward-words (Small version) (word_line word) at) is) taken
 
--- one row more
+-- one more row
 pub row-more : (version : Version) (table : TableShape) (from left n : ℕ) (at after : Position) (row : List ℕ) → n ≡ suc left
     → words (Small version) (numbers_line (columns_in version table from) (most_in version table)) at ≡ Ok (row, after)
     → table_rows version table from n at ≡ after_part (part_of table row) (table_rows version table (from + 1) left after)
@@ -180,7 +180,7 @@ row-faults version table from left n at fault more faults =
     rw more (part-faults (words (Small version) (numbers_line (columns_in version table from) (most_in version table)) at) _ fault
     (λ row. onward-table version table (from + 1) left row.1) faults)
 
--- one link more
+-- one more link
 pub link-more : (version : Version) (n from left m : ℕ) (at after : Position) (one : Link) → m ≡ suc left → link_at (Small version) at ≡ Ok (one, after)
     → link_rows version n from m at ≡ after_part (part.Link one) (link_rows version n (from + 1) left after)
 link-more version n from left m at after one more is = rw more (rw is refl)
@@ -190,7 +190,7 @@ pub link-faults : {F : Type 0} (version : Version) (n from left m : ℕ) (at : P
 link-faults version n from left m at fault more faults =
     rw more (part-faults (link_at (Small version) at) _ fault (λ one. onward-links version n (from + 1) left one.1) faults)
 
--- something stands behind the last line, or the reader failed
+-- something comes after the last line, or the reader failed
 pub ended-faults : {R P : Type 0} (at : Position) (fault : CertFault) (new : Input R) → Ends at (Err fault) new
     → FaultsIn {P = P} (HasFailed new) at.line (ended_parts at) fault
 ended-faults at fault new (line, inl more) = inl (rw (some-left at.bytes more.1, line, more.0) refl)

@@ -39,7 +39,7 @@ onward-at {A} {at} {after} {x} read on is = (subst (IsOnward at) is on).onward
 
 -- ---- parts by number
 
--- what was read so far stands before what is still to be read
+-- what was read so far comes before what is still to be read
 abbrev pub before_rest : {X : Type 0} → List X → Reads (List X) → Reads (List X)
 before_rest front read = read >>= λ rest. Ok (front ++ rest.0, rest.1)
 

@@ -1,4 +1,4 @@
--- Parts of a text given one by one to who takes them.
+-- Parts of a text given one by one to a taker.
 use Rattle.std.proofs.Common.{◌≡◌, ℕ, ◌+◌, ◌<◌, ◌≤◌, List, [], ◌∷◌, ◌++◌, Option, Result, Ok, Err, inr, refl, ap, ◌∙◌, arith}
 use Rattle.std.proofs.lemmas.Result.{err_from_is_err_and}
 use Rattle.std.specs.Result.{IsErrAnd}
@@ -7,7 +7,7 @@ use Rattle.tcc_graph.specs.declared.step.Step.{Step}
 use Rattle.tcc_cert.specs.declared.fault.CertFault.{CertFault}
 use Rattle.tcc_cert.specs.declared.fault.CertFaultKind.TheVariants.{NoMemory}
 use Rattle.tcc_cert.specs.declared.reading.input.Input.{Input}
-use Rattle.tcc_cert.specs.declared.ranges.Scale.TheVariants.{Large}
+use Rattle.tcc_cert.specs.declared.ranges.TextFormat.TheVariants.{Large}
 use Rattle.tcc_cert.specs.InputBytes.{IsAt}
 use Rattle.tcc_cert.specs.private.Inputs.{Gives, GivesSuch}
 use Rattle.tcc_cert.specs.private.Onward.{IsOnward}
@@ -31,7 +31,7 @@ onward-steps i p = onward-words Large (step_line Large) p
 pub onward-links : (i : ℕ) (p : Position) → IsOnward p (links_at i p)
 onward-links i p = onward-link Large p
 
--- so many parts were read, of which this holds, and the input is behind them
+-- this many parts were read, of which this holds, and the input is now after them
 pub record HasGiven {R X : Type 0} (remaining : R → Option (List ℕ)) (input : Input R) (read : ℕ → Position → Reads X) (count : ℕ) (at : Position) (i : ℕ)
     (such : List X → Type 0) : Type 0 where
   pub items : List X
@@ -64,12 +64,12 @@ module _ {R X : Type 0} (remaining : R → Option (List ℕ)) (read : ℕ → Po
     given = (so_far.now, part-all read count at so_far.items i so_far.now le so_far.part, so_far.there);
   }
 
--- memory was refused behind a part that was read
+-- memory was refused after a part that was read
 pub refused-behind : {F X : Type 0} (at after : Position) (read : Reads X) (x : X) → IsOnward at read → read ≡ Ok (x, after)
     → Faults F at read (record { line = after.line; kind = NoMemory })
 refused-behind at after read x on is = inr (record { failure = inr refl; first = onward-at read on is; last = omega (arith, ap reached is) })
 
--- ---- a part and what comes behind it
+-- ---- a part and what comes after it
 
 such-behind : {R A B Y : Type 0} (remaining : R → Option (List ℕ)) (at after : Position) (read : Reads A) (go : A × Position → Reads B) (x : A)
     (such : B → Y → Type 0) (result : Result Y CertFault) (new : Input R)
@@ -81,7 +81,7 @@ such-behind remaining at after read go x such (Ok y) new is on found = record {
 }
 such-behind remaining at after read go x such (Err fault) new is on faults = later-faults read go fault is on faults
 
--- a part was read, and of what comes behind it something was given
+-- a part was read, and of what comes after it something was given
 pub such-then : {R A B Y : Type 0} (remaining : R → Option (List ℕ)) (at : Position) (read : Reads A) (go : A × Position → Reads B) (x : A) (between : Input R)
     (such : B → Y → Type 0) (result : Result Y CertFault) (new : Input R)
     → IsOnward at read → Gives remaining at read (Ok x) between

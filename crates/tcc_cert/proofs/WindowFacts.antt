@@ -1,4 +1,4 @@
--- The bytes between two positions of a buffer, after a read behind them or where the first goes on.
+-- The bytes between two positions of a buffer, after a read into what follows them or a move of the first.
 use Rattle.std.proofs.Common.{◌≡◌, ℕ, ◌+◌, ◌-◌, ◌≤◌, List, ◌++◌, length, take, drop, slice_range, refl, sym, ap, ◌∙◌, arith}
 use Rattle.std.proofs.lemmas.List.{take_at, drop_at, take-append-le, drop-append-le, drop-take, drop-drop, length-take-le, length-drop}
 use borrow.Rule.Slice.PartMut.{put_mid, post_of}

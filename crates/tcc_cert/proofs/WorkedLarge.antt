@@ -23,7 +23,7 @@ fork = claim.Order (record { level = Causal; transactions = 5; sessions = 4; run
 abbrev fork_text : List ℕ
 fork_text = codes "tcc-certificate 3 causal\norder 5 4 4\n0 1\n1 1\n2 1\n3 1\nend\n"
 
--- x is read from 1 behind an own write that 4 steps lead to
+-- x is read from 1 after an own write that 4 steps lead to
 abbrev five_steps : Option (List Run) → LargeCertificate
 five_steps least = claim.Cycle (record {
   level = Causal;
@@ -68,7 +68,7 @@ none_read = refl
 no_level : HaveFault large_certificate_read 1 Header (codes "tcc-certificate 3\norder 1 0 0\n" ∷ [])
 no_level = (refl, tt)
 
--- what is read behind the first line
+-- what is read after the first line
 abbrev behind_first : List ℕ → Result LargeCertificate CertFault
 behind_first rest = large_certificate_read (codes "tcc-certificate 3 causal\n" ++ rest)
 
@@ -84,7 +84,7 @@ faulty_runs : HaveFault behind_first 3 Number (codes "order 5 4 4\n0 0\n" ∷ []
     × HaveFault behind_first 4 Word (codes "order 5 4 1\n0 1\n1 1\n" ∷ [])
 faulty_runs = ((refl, tt), (refl, tt), (refl, tt), (refl, tt))
 
--- what is read behind the links
+-- what is read after the links
 abbrev behind_links : List ℕ → Result LargeCertificate CertFault
 behind_links tail = large_certificate_read (five_steps_text tail)
 

@@ -75,7 +75,7 @@ too_large : HaveFault certificate_read 2 TooLarge (codes "tcc-certificate 1\ncyc
     × HaveFault certificate_read 3 Truncated (codes "tcc-certificate 2 causal\ncycle 1025 2 3\n" ∷ [])
 too_large = ((refl, (refl, tt)), (refl, tt))
 
--- texts that end within `far`, the second row of which is one of version 1, or behind it
+-- texts that end within `far`, the second row of which is one of version 1, or after it
 abbrev two_rows : List ℕ
 two_rows = codes "far\n3 1 1\n2 3 1\n"
 

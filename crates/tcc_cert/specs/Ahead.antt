@@ -1,4 +1,4 @@
--- What a reader of parts has still to give.
+-- What a reader of parts is still to give.
 use Rattle.std.specs.Prelude.{ℕ, Bool, true, false, List, Option, None, Some, Result, Ok, Err, ◌+◌, ◌≡◌}
 use Rattle.tcc_cert.specs.declared.fault.CertFault.{CertFault}
 use Rattle.tcc_cert.specs.declared.part.Part.{Part}
@@ -6,16 +6,16 @@ use Rattle.tcc_cert.specs.declared.part.Part.TheVariants as part
 use Rattle.tcc_cert.specs.declared.reading.parts.CertReader.{CertReader}
 use Rattle.tcc_cert.specs.declared.reading.stages.Stage.{Stage}
 use Rattle.tcc_cert.specs.declared.reading.stages.Stage.TheVariants as stage
-use Rattle.tcc_cert.specs.declared.reading.stages.Coming.TheVariants as coming
+use Rattle.tcc_cert.specs.declared.reading.stages.ExpectedPart.TheVariants as coming
 use Rattle.tcc_cert.specs.InputBytes.{HasFailed, IsAt}
 use Rattle.tcc_cert.specs.Parts.{Parts, FaultsIn, IsFirst, stopped, ending, link_rows, whole_parts}
 use Rattle.tcc_cert.specs.Reading.{Position}
 use Rattle.tcc_cert.specs.Shapes.{height, links_from, rows_from, table_parts, table_rows}
 use Rattle.tcc_cert.specs.declared.reading.input.Input.{Input}
-use Rattle.tcc_cert.specs.declared.reading.stages.Coming.{Coming}
+use Rattle.tcc_cert.specs.declared.reading.stages.ExpectedPart.{ExpectedPart}
 
--- how many links and rows come before the end, behind the claim
-abbrev pub rows_at : Coming → ℕ
+-- how many links and rows come between the claim and the end
+abbrev pub rows_at : ExpectedPart → ℕ
 rows_at coming.Whole = 0
 rows_at (coming.Links left) = links_from left.transactions left.many
 rows_at (coming.Mark version table) = rows_from table (height table)
@@ -26,8 +26,8 @@ rows_in (stage.Going at) = rows_at at
 rows_in stage.Ended = 0
 rows_in (stage.Stopped fault) = 0
 
--- the parts from the position on, where this is to come
-abbrev pub IsBehind : Coming → Position → Parts → Type 0
+-- these are the parts from the position on, where this is still to come
+abbrev pub IsBehind : ExpectedPart → Position → Parts → Type 0
 IsBehind coming.Whole at ahead = ahead ≡ whole_parts at
 IsBehind (coming.Links left) at ahead = (from : ℕ) × (ahead ≡ link_rows left.version left.transactions from left.many at)
 IsBehind (coming.Mark version table) at ahead = ahead ≡ table_parts version table at
@@ -51,7 +51,7 @@ line_wanted reader = reader.input.number
 abbrev pub ReaderFailed : {R : Type 0} → CertReader R → Type 0
 ReaderFailed reader = HasFailed reader.input
 
--- how many links and rows come before the end, behind the claim
+-- how many links and rows come between the claim and the end
 abbrev pub rows_left : {R : Type 0} → CertReader R → ℕ
 rows_left reader = rows_in reader.stage
 
@@ -91,7 +91,7 @@ abbrev pub is_end : Part → Bool
 is_end part.End = true
 is_end _ = false
 
--- the first of the parts that were to come was given, and the others are still to come, or the fault that was
+-- the first of the parts to come was given, and the others are still to come; or a fault was given, and comes again
 abbrev pub TakesPart : {R : Type 0} → (R → Option (List ℕ)) → ℕ → Parts → Result Part CertFault → CertReader R → Type 0
 TakesPart remaining wanted ahead (Ok given) new = (rest : Parts) × IsFirst given ahead rest × IsAhead remaining new rest
 TakesPart remaining wanted ahead (Err fault) new = FaultsIn (ReaderFailed new) wanted ahead fault × IsAhead remaining new (stopped fault)

@@ -1,4 +1,4 @@
--- The lines of a claim of a cycle of which not all rows are there yet.
+-- The lines of a claim of a cycle whose rows have not all come yet.
 use Rattle.std.specs.Prelude.{ℕ, ◌≡◌, List, [], ◌∷◌, ◌++◌, length, codes, decimal, flat_map}
 use Rattle.tcc_graph.specs.declared.link.Link.{Link}
 use Rattle.tcc_graph.specs.declared.level.Level.{Level}
@@ -17,12 +17,12 @@ begun_lines version level count links least =
     ∷ (codes "cycle" ∷ decimal count ∷ decimal (length links) ∷ decimal least ∷ [])
     ∷ (flat_map link_lines links ++ (codes "near" ∷ []) ∷ [])
 
--- the rows of `far`, from the first on behind their mark
+-- the rows of `far`, and the line with its name before the first of them
 abbrev pub far_lines : List (List ℕ) → List Words
 far_lines [] = []
 far_lines (row ∷ rows) = (codes "far" ∷ []) ∷ table_lines (row ∷ rows)
 
--- the lines up to the last row that is there, of a claim about so many transactions
+-- the lines up to the last row that has come, of a claim about this many transactions
 abbrev pub given_lines : ℕ → CycleClaim → List Words
 given_lines count k = begun_lines k.version k.level count k.links k.least ++ (table_lines k.near ++ far_lines k.far)
 
@@ -31,12 +31,12 @@ abbrev pub with_rows : CycleTable → CycleClaim → List (List ℕ) → CycleCl
 with_rows table.Near k rows = record k { near = k.near ++ rows }
 with_rows table.Far k rows = record k { far = k.far ++ rows }
 
--- there may be more rows of the table: none of `near` comes behind one of `far`
+-- there may be more rows of the table: none of `near` comes after one of `far`
 abbrev pub MayTake : CycleTable → CycleClaim → Type 0
 MayTake table.Near k = k.far ≡ []
 MayTake table.Far k = Unit {0}
 
--- rows of `far` come behind those of `near`
+-- rows of `far` come after those of `near`
 abbrev pub stage_of : List (List ℕ) → Stage
 stage_of [] = Near
 stage_of (row ∷ rows) = Far

@@ -1,4 +1,5 @@
--- The rules for a claim that a cycle is least. The tables are anybody's: `near` claims to bound the lengths of walks from below, `far` the costs of routes.
+-- The rules for a claim that a cycle is least. The tables are untrusted: `near` claims to bound the lengths of walks from below, `far` the
+-- costs of routes.
 use Rattle.std.specs.Prelude.{ℕ, ◌<◌, ◌≤◌, ◌≡◌, ◌+◌, ◌⊎◌, List, [], ◌∷◌, ◌++◌, length, All, Option, None, Some}
 use Rattle.tcc_reads.specs.History.{History, count}
 use Rattle.tcc_graph.specs.Relations.{IsCausalPair}
@@ -30,7 +31,7 @@ abbrev pub ends_at : ℕ → List Link → ℕ
 ends_at at [] = at
 ends_at at (l ∷ links) = ends_at (link_to l) links
 
--- the link after those before it is not right, where the first has to begin at `from`
+-- link i, counted from 1, is not right after those before it, where the first has to begin at `from`
 pub record IsWrongFrom (j : Judged) (from : ℕ) (links : List Link) (i : ℕ) : Type 0 where
   pub before : List Link
   pub link : Link
@@ -39,7 +40,7 @@ pub record IsWrongFrom (j : Judged) (from : ℕ) (links : List Link) (i : ℕ) :
   pub at : i ≡ length before + 1
   pub wrong : IsLinkRight j (ends_at from before) link → ⊥
 
--- the link after those before it is not right, where the first has to begin where the last ends
+-- link i is not right after those before it, where the first has to begin where the last ends
 abbrev pub IsLinkWrong : Judged → List Link → ℕ → Type 0
 IsLinkWrong j links i = IsWrongFrom j (ends_at 0 links) links i
 
@@ -49,34 +50,35 @@ pub record AreLinksRight (j : Judged) (most : ℕ) (links : List Link) : Type 0 
   pub right : (i : ℕ) → IsLinkWrong j links i → ⊥
   pub costs : cost links ≡ most
 
--- where they are not: at the first link that is not right, from 1, or, where all are, at 0
+-- where they are not: at the first link that is not right, counted from 1, or at 0 where each is right
 abbrev pub IsLinksFault : Judged → ℕ → List Link → ℕ × ℕ → Type 0
 IsLinksFault j most links at =
     (IsLinkWrong j links at.0 × ((at.1 ≡ 0) × ((i : ℕ) → i < at.0 → IsLinkWrong j links i → ⊥)))
     ⊎ ((at ≡ (0, 0)) × (((i : ℕ) → IsLinkWrong j links i → ⊥) × (AreLinksRight j most links → ⊥)))
 
--- the first of them that is not right, from 1; 0 where all are, but there are none, or they cost another sum; none where they are
+-- the first link that is not right, counted from 1; 0 where each is right, but there are none or they have another cost; none where they
+-- are such a cycle
 abbrev pub IsFirstWrongLink : Judged → ℕ → List Link → Option ℕ → Type 0
 IsFirstWrongLink j most links None = AreLinksRight j most links
 IsFirstWrongLink j most links (Some at) = IsLinksFault j most links (at, 0)
 
--- causal pairs are no farther than 1
+-- a causal pair is at most 1 long
 abbrev pub BreaksNearPair : History → List (List ℕ) → ℕ × ℕ → Type 0
 BreaksNearPair h near at = IsCausalPair h at.0 at.1 × (1 < entry near at.0 at.1)
 
--- one more causal pair takes no more than one more step; where walks are single pairs, this is not asked
+-- one more causal pair adds at most one step; this is not asked where walks are single pairs
 abbrev pub BreaksNearStep : History → Level → List (List ℕ) → ℕ × ℕ → Type 0
 BreaksNearStep h level near at =
     (level ≡ Causal) × ((at.0 < count h) × ((b : ℕ) × IsCausalPair h b at.1 × (entry near at.0 b + 1 < entry near at.0 at.1)))
 
--- a single link that goes no lower than it begins takes no more than it costs
+-- a single link that ends no lower than it begins has at most its cost
 abbrev pub BreaksFarLink : History → Version → List (List ℕ) → List (List ℕ) → ℕ × ℕ → Type 0
 BreaksFarLink h version near far at =
     (lowest version at.0 ≤ at.1) × (
     (IsCausalPair h at.0 at.1 × (1 < far_entry version far at.0 at.1))
     ⊎ ((x : List ℕ) × (c : ℕ) × MayContradict h at.0 at.1 x c × (1 + entry near at.0 c < far_entry version far at.0 at.1)))
 
--- one more link that goes no lower than the beginning takes no more than it costs
+-- one more link that ends no lower than the beginning adds at most its cost
 abbrev pub BreaksFarStep : History → Version → List (List ℕ) → List (List ℕ) → ℕ × ℕ → Type 0
 BreaksFarStep h version near far at =
     (at.0 < count h) × ((lowest version at.0 ≤ at.1) × ((u : ℕ) × (lowest version at.0 ≤ u) × (

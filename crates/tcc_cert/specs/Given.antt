@@ -7,7 +7,7 @@ use Rattle.tcc_cert.specs.Texts.{lines_text}
 use Rattle.tcc_cert.specs.Begun.{given_lines, stage_of}
 use Rattle.std.specs.Io.KnownBytes.{Appends}
 
--- the bytes that were held and then the text went out up to those that are left
+-- the bytes that were held were written, and then the text, up to the bytes that are left
 pub record Sends (before : Option (List ℕ)) (held : List ℕ) (after : Option (List ℕ)) (left : List ℕ) (text : List ℕ) : Type 0 where
   pub sent : List ℕ
   pub appended : Appends before after sent
@@ -17,7 +17,7 @@ pub record Sends (before : Option (List ℕ)) (held : List ℕ) (after : Option 
 abbrev pub HasFailed : {W : Type 0} → CycleWriter W → Type 0
 HasFailed writer = writer.stage ≡ Failed
 
--- of a claim about so many transactions it was given these rows: behind what its output had before, their lines went out or wait to
+-- it was given these rows of a claim about this many transactions: their lines were written after what its output had before, or wait to be
 pub record HasTaken {W : Type 0} (contents : W → Option (List ℕ)) (before : Option (List ℕ)) (count : ℕ) (k : CycleClaim)
     (writer : CycleWriter W) : Type 0 where
   pub lines : Sends before [] (contents writer.out.now) writer.outgoing (lines_text (given_lines count k))

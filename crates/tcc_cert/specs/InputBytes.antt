@@ -1,4 +1,4 @@
--- Where in its bytes a reader's input stands.
+-- How far into its bytes a reader's input is.
 use Rattle.std.specs.Prelude.{ℕ, ◌≡◌, List, drop, Option, Some, IsTrue}
 use Rattle.std.specs.Io.KnownBytes.{prepend_known}
 use Rattle.tcc_cert.specs.declared.reading.input.Input.{Input}
@@ -9,7 +9,7 @@ use Rattle.tcc_cert.specs.Reading.{Position}
 abbrev pub HasFailed : {R : Type 0} → Input R → Type 0
 HasFailed input = IsTrue input.source.failed
 
--- behind the last line the input has these bytes, from the line with this number on
+-- after the last line the input has these bytes, from the line with this number on
 pub record IsAt {R : Type 0} (remaining : R → Option (List ℕ)) (input : Input R) (at : Position) : Type 0 where
   pub number : input.number ≡ at.line
   pub bytes : prepend_known (drop input.passed (window_bytes input.window)) (remaining input.source.reader) ≡ Some at.bytes

@@ -3,7 +3,7 @@ use Rattle.std.specs.Prelude.{ℕ, if◌then◌else◌, Bool, false, is_ok, List
 use Rattle.tcc_txn.specs.Bytes.{same}
 use Rattle.tcc_graph.specs.declared.level.Level.{Level}
 use Rattle.tcc_graph.specs.declared.level.Level.TheVariants.{Causal, Atomic}
-use Rattle.tcc_cert.specs.declared.ranges.Scale.TheVariants.{Large}
+use Rattle.tcc_cert.specs.declared.ranges.TextFormat.TheVariants.{Large}
 use Rattle.tcc_cert.specs.declared.ranges.TheConstants.{MAX_HEADER_BYTES}
 use Rattle.tcc_cert.specs.declared.version_3.TheConstants.{V3_MAX_NUMBER, V3_MAX_RUNS, V3_MAX_SESSION, V3_MAX_SESSIONS}
 use Rattle.tcc_cert.specs.declared.fault.CertFault.{CertFault}
@@ -15,8 +15,8 @@ use Rattle.tcc_cert.specs.declared.large.Run.{Run}
 use Rattle.tcc_cert.specs.declared.reading.forms.Sizes.{Sizes}
 use Rattle.tcc_cert.specs.declared.reading.forms.Sizes.TheVariants.{Order, Cycle}
 use Rattle.tcc_cert.specs.declared.reading.large_forms.LargeOrderSizes.{LargeOrderSizes}
-use Rattle.tcc_cert.specs.declared.reading.large_forms.Tail.{Tail}
-use Rattle.tcc_cert.specs.declared.reading.large_forms.Tail.TheVariants.{Least, End}
+use Rattle.tcc_cert.specs.declared.reading.large_forms.FooterLine.{FooterLine}
+use Rattle.tcc_cert.specs.declared.reading.large_forms.FooterLine.TheVariants.{Least, End}
 use Rattle.tcc_cert.specs.Texts.{Words}
 use Rattle.tcc_cert.specs.Reading.{◌>>=◌, Position, Reads, by_word, claim_sizes, count_of, ended, line_of, link_at, next, number_of, repeated, start_of}
 use Rattle.tcc_cert.specs.Reading.{three_words, two_words, word_line, words}
@@ -56,13 +56,13 @@ large_order_sizes n s r = do
 abbrev pub large_sizes_line : Words → Result (Sizes LargeOrderSizes) CertFaultKind
 large_sizes_line line = claim_sizes (three_words large_order_sizes) Large line
 
-abbrev pub least_of : List ℕ → Result Tail CertFaultKind
+abbrev pub least_of : List ℕ → Result FooterLine CertFaultKind
 least_of r = do
   runs ← runs_of r
   Ok (Least runs)
 
--- the line behind the last link
-abbrev pub tail_line : Words → Result Tail CertFaultKind
+-- the line after the last link
+abbrev pub tail_line : Words → Result FooterLine CertFaultKind
 tail_line line = by_word (codes "least") (one_word least_of) (codes "end") (no_words End) line
 
 -- the level that the first line says
@@ -74,15 +74,15 @@ large_header_line line =
 
 -- ---- lines
 
--- so many runs, and the last line
+-- this many runs, and the last line
 abbrev pub runs_at : ℕ → Position → Reads (List Run)
 runs_at count at = do
   runs ← repeated (words Large run_line) count at
   end ← words Large (word_line (codes "end")) runs.1
   Ok (runs.0, end.1)
 
--- what stands behind the line behind the last link
-abbrev pub least_at : Tail → Position → Reads (Option (List Run))
+-- what comes after the line that follows the last link
+abbrev pub least_at : FooterLine → Position → Reads (Option (List Run))
 least_at End at = Ok (None, at)
 least_at (Least count) at = do
   runs ← runs_at count at
@@ -104,13 +104,13 @@ abbrev pub large_claim_at : Level → Sizes LargeOrderSizes → Position → Rea
 large_claim_at level (Order sizes) at = runs_claim_at level sizes.transactions sizes.sessions sizes.runs at
 large_claim_at level (Cycle sizes) at = links_claim_at level sizes.transactions sizes.links sizes.cost at
 
--- what stands behind the first line
+-- what comes after the first line
 abbrev pub large_behind_header : Level × Position → Reads LargeCertificate
 large_behind_header header = do
   sizes ← words Large large_sizes_line header.1
   large_claim_at header.0 sizes.0 sizes.1
 
--- a certificate, up to the line behind its last
+-- a certificate, up to the line after its last
 abbrev pub large_certificate_at : Position → Reads LargeCertificate
 large_certificate_at at = next MAX_HEADER_BYTES large_header_line at >>= large_behind_header
 

@@ -2,7 +2,7 @@
 use Rattle.std.specs.Prelude.{ℕ, ◌≤◌, List, [], ◌∷◌, ◌++◌, length, map, All, Option, None, Some, codes, decimal, flat_map}
 use Rattle.tcc_graph.specs.declared.level.Level.{Level}
 use Rattle.tcc_graph.specs.declared.level.Level.TheVariants.{Causal, Atomic}
-use Rattle.tcc_cert.specs.declared.ranges.Scale.TheVariants.{Large}
+use Rattle.tcc_cert.specs.declared.ranges.TextFormat.TheVariants.{Large}
 use Rattle.tcc_cert.specs.declared.version_3.TheConstants.{V3_MAX_COST, V3_MAX_NUMBER, V3_MAX_RUNS, V3_MAX_SESSION, V3_MAX_SESSIONS}
 use Rattle.tcc_cert.specs.declared.large.LargeCertificate.{LargeCertificate}
 use Rattle.tcc_cert.specs.declared.large.LargeCertificate.TheVariants as claim

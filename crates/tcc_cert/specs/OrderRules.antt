@@ -1,4 +1,5 @@
--- The rules for a claim that a list is a commit order. The clocks are anybody's: they claim to bound from above how much of each session reaches a transaction.
+-- The rules for a claim that a list is a commit order. The clocks are untrusted: they claim to bound from above how much of each session
+-- reaches a transaction.
 use Rattle.std.specs.Prelude.{ℕ, ◌<◌, ◌≤◌, ◌≡◌, ◌≢◌, ◌⊎◌, List, [], length}
 use Rattle.tcc_reads.specs.History.{History, count, owner, place}
 use Rattle.tcc_graph.specs.Relations.{IsCausalPair}
@@ -36,7 +37,7 @@ abbrev pub MayReach : History → Level → List (List ℕ) → ℕ → ℕ → 
 MayReach h Causal clocks b c = (b ≡ 0) ⊎ (place h b ≤ entry clocks c (owner h b))
 MayReach h Atomic clocks b c = IsCausalPair h b c
 
--- c reads from a, and b, which writes the key too and may reach c, does not stand before a
+-- c reads from a, and b, which writes the key too and may reach c, is not before a
 abbrev pub BreaksAxiom : History → OrderClaim → ℕ × ℕ → Type 0
 BreaksAxiom h k at =
     (x : List ℕ) × (c : ℕ) × MayContradict h at.0 at.1 x c × MayReach h k.level k.clocks at.0 c × (Before k.order at.0 at.1 → ⊥)

@@ -1,4 +1,4 @@
--- What comes of reading, where a reader may fail and memory may be refused.
+-- The result of reading, where a reader may fail and memory may be refused.
 use Rattle.std.specs.Prelude.{ℕ, ◌≡◌, ◌≤◌, ◌⊎◌, List, length, Result, Ok, Err}
 use Rattle.tcc_cert.specs.declared.fault.CertFault.{CertFault}
 use Rattle.tcc_cert.specs.declared.fault.CertFaultKind.{CertFaultKind}
@@ -9,7 +9,7 @@ use Rattle.tcc_cert.specs.declared.version_3.TheConstants.{V3_MAX_TEXT_BYTES}
 use Rattle.tcc_cert.specs.LargeReading.{large_certificate_at, large_certificate_read}
 use Rattle.tcc_cert.specs.Reading.{Position, Reads, certificate_at, certificate_read, start_of}
 
--- what comes of a reader that failed, if it did, or where a run is out of memory
+-- the kinds of fault of a reader that failed, if it did, and of a run that is out of memory
 abbrev pub IsFailure : Type 0 → CertFaultKind → Type 0
 IsFailure failed kind = ((kind ≡ Read) × failed) ⊎ (kind ≡ NoMemory)
 
@@ -30,11 +30,11 @@ IsReadingWhere failed bytes (Ok certificate) = certificate_read bytes ≡ Ok cer
 IsReadingWhere failed bytes (Err fault) =
     (certificate_read bytes ≡ Err fault) ⊎ IsCutShort failed (start_of bytes) (certificate_at (start_of bytes)) fault
 
--- so where nobody can say whether the reader failed
+-- the same where it is unknown whether the reader failed
 abbrev pub IsReading : List ℕ → Result Certificate CertFault → Type 0
 IsReading bytes result = IsReadingWhere (Unit {0}) bytes result
 
--- of a text of version 3, which has no more bytes than such a text may have; one that goes on past them is as one whose reader failed
+-- the same for a text of version 3, which has no more bytes than such a text may have; a longer one counts as one whose reader failed
 abbrev pub IsLargeReading : List ℕ → Result LargeCertificate CertFault → Type 0
 IsLargeReading bytes (Ok certificate) = (large_certificate_read bytes ≡ Ok certificate) × (length bytes ≤ V3_MAX_TEXT_BYTES)
 IsLargeReading bytes (Err fault) =

@@ -1,7 +1,7 @@
 -- What each version of the certificate's text allows.
 use Rattle.tcc_cert.specs.declared.ranges.Ranges.{Ranges}
-use Rattle.tcc_cert.specs.declared.ranges.Scale.{Scale}
-use Rattle.tcc_cert.specs.declared.ranges.Scale.TheVariants.{Small, Large}
+use Rattle.tcc_cert.specs.declared.ranges.TextFormat.{TextFormat}
+use Rattle.tcc_cert.specs.declared.ranges.TextFormat.TheVariants.{Small, Large}
 use Rattle.tcc_cert.specs.declared.version.Version.{Version}
 use Rattle.tcc_cert.specs.declared.version.Version.TheVariants.{One, Two}
 use Rattle.tcc_cert.specs.declared.version_1.TheConstants.{V1_MAX_COST, V1_MAX_COUNT, V1_MAX_LINE_BYTES, V1_MAX_NUMBER, V1_MAX_SESSIONS}
@@ -15,7 +15,7 @@ ranges_of Two =
     record { count = V2_MAX_COUNT; number = V2_MAX_NUMBER; sessions = V2_MAX_SESSIONS; cost = V2_MAX_COST; line_bytes = V2_MAX_LINE_BYTES }
 
 -- those of version 3 too
-abbrev pub ranges_at : Scale → Ranges
+abbrev pub ranges_at : TextFormat → Ranges
 ranges_at (Small version) = ranges_of version
 ranges_at Large =
     record { count = V3_MAX_COUNT; number = V3_MAX_NUMBER; sessions = V3_MAX_SESSIONS; cost = V3_MAX_COST; line_bytes = V3_MAX_LINE_BYTES }

@@ -22,13 +22,13 @@ use Rattle.tcc_cert.specs.declared.fault.CertFaultKind.{CertFaultKind}
 use Rattle.tcc_cert.specs.declared.fault.CertFaultKind.TheVariants.{Header, Word, Number, Count, TooLarge, Truncated, Trailing}
 use Rattle.tcc_cert.specs.declared.certificate.Certificate.{Certificate}
 use Rattle.tcc_cert.specs.declared.certificate.Certificate.TheVariants as claim
-use Rattle.tcc_cert.specs.declared.reading.forms.Head.{Head}
+use Rattle.tcc_cert.specs.declared.reading.forms.HeaderLine.{HeaderLine}
 use Rattle.tcc_cert.specs.declared.reading.forms.CycleSizes.{CycleSizes}
 use Rattle.tcc_cert.specs.declared.reading.forms.OrderSizes.{OrderSizes}
 use Rattle.tcc_cert.specs.declared.reading.forms.Sizes.{Sizes}
 use Rattle.tcc_cert.specs.declared.reading.forms.Sizes.TheVariants.{Order, Cycle}
-use Rattle.tcc_cert.specs.declared.ranges.Scale.{Scale}
-use Rattle.tcc_cert.specs.declared.ranges.Scale.TheVariants.{Small}
+use Rattle.tcc_cert.specs.declared.ranges.TextFormat.{TextFormat}
+use Rattle.tcc_cert.specs.declared.ranges.TextFormat.TheVariants.{Small}
 use Rattle.tcc_cert.specs.Ranges.{ranges_at, ranges_of}
 use Rattle.tcc_cert.specs.Tables.{lowest}
 use Rattle.tcc_cert.specs.Texts.{Words}
@@ -41,7 +41,7 @@ abbrev pub ◌>>=◌ : {A B E : Type 0} → Result A E → (A → Result B E) �
 
 -- ---- words
 
--- what stands between spaces; n spaces part n + 1 words, some of them empty
+-- what is between spaces: n spaces separate n + 1 words, some of them empty
 abbrev pub parted : List ℕ → Words
 parted bytes = slice_split (λ byte. byte == 32) bytes
 
@@ -61,12 +61,12 @@ number_of least most word =
     else if nat_lt most (digits_value 10 word) then Err TooLarge
     else Ok (digits_value 10 word)
 
--- a number of a transaction, or a place in a clock
-abbrev pub transaction_of : Scale → List ℕ → Result ℕ CertFaultKind
+-- the index of a transaction, or a place in a clock
+abbrev pub transaction_of : TextFormat → List ℕ → Result ℕ CertFaultKind
 transaction_of scale word = number_of 0 (ranges_at scale).number word
 
 -- how many transactions, links or steps
-abbrev pub count_of : Scale → List ℕ → Result ℕ CertFaultKind
+abbrev pub count_of : TextFormat → List ℕ → Result ℕ CertFaultKind
 count_of scale word = number_of 1 (ranges_at scale).count word
 
 abbrev pub key_of : List ℕ → Result (List ℕ) CertFaultKind
@@ -87,7 +87,7 @@ numbers_of most (word ∷ words) = do
   numbers ← numbers_of most words
   Ok (number ∷ numbers)
 
--- a line of so many numbers
+-- a line of this many numbers
 abbrev pub numbers_line : ℕ → ℕ → Words → Result (List ℕ) CertFaultKind
 numbers_line count most words = if length words == count then numbers_of most words else Err Count
 
@@ -104,7 +104,7 @@ abbrev pub five_words : {X : Type 0} → (List ℕ → List ℕ → List ℕ →
 five_words form (first ∷ second ∷ third ∷ fourth ∷ fifth ∷ []) = form first second third fourth fifth
 five_words form _ = Err Count
 
--- a line that begins with one of two words, each of which has a form for what stands behind it
+-- a line that begins with one of two words, each of which has a form for what comes after it
 abbrev pub by_word : {X : Type 0} → List ℕ → (Words → Result X CertFaultKind) → List ℕ → (Words → Result X CertFaultKind) → Words → Result X CertFaultKind
 by_word one behind_one other behind_other [] = Err Word
 by_word one behind_one other behind_other (word ∷ fields) =
@@ -112,13 +112,13 @@ by_word one behind_one other behind_other (word ∷ fields) =
     else if same word other then behind_other fields
     else Err Word
 
-abbrev pub session_of : Scale → List ℕ → List ℕ → Result Step CertFaultKind
+abbrev pub session_of : TextFormat → List ℕ → List ℕ → Result Step CertFaultKind
 session_of scale u v = do
   from ← transaction_of scale u
   to ← transaction_of scale v
   Ok (step.Session from to)
 
-abbrev pub reads_of : Scale → List ℕ → List ℕ → List ℕ → Result Step CertFaultKind
+abbrev pub reads_of : TextFormat → List ℕ → List ℕ → List ℕ → Result Step CertFaultKind
 reads_of scale u v name = do
   from ← transaction_of scale u
   to ← transaction_of scale v
@@ -126,7 +126,7 @@ reads_of scale u v name = do
   Ok (step.Reads from to key)
 
 -- a step of a walk
-abbrev pub step_line : Scale → Words → Result Step CertFaultKind
+abbrev pub step_line : TextFormat → Words → Result Step CertFaultKind
 step_line scale line = by_word (codes "S") (two_words (session_of scale)) (codes "R") (three_words (reads_of scale)) line
 
 abbrev pub with_walk : Link → List Step → Link
@@ -134,10 +134,10 @@ with_walk (link.Session u v) walk = link.Session u v
 with_walk (link.Reads u v key) walk = link.Reads u v key
 with_walk (link.Derived b a key c _) walk = link.Derived b a key c walk
 
-abbrev pub head_of_step : Step → Head
+abbrev pub head_of_step : Step → HeaderLine
 head_of_step step = record { link = link_of step; steps = 0 }
 
-abbrev pub derived_of : Scale → List ℕ → List ℕ → List ℕ → List ℕ → List ℕ → Result Head CertFaultKind
+abbrev pub derived_of : TextFormat → List ℕ → List ℕ → List ℕ → List ℕ → List ℕ → Result HeaderLine CertFaultKind
 derived_of scale b a name c w = do
   from ← transaction_of scale b
   to ← transaction_of scale a
@@ -147,32 +147,32 @@ derived_of scale b a name c w = do
   Ok (record { link = link.Derived from to key reader []; steps = steps })
 
 -- the line that a link begins with
-abbrev pub head_line : Scale → Words → Result Head CertFaultKind
+abbrev pub head_line : TextFormat → Words → Result HeaderLine CertFaultKind
 head_line scale [] = Err Word
 head_line scale (word ∷ fields) =
     if same word (codes "D") then five_words (derived_of scale) fields
     else step_line scale (word ∷ fields) >>= λ step. Ok (head_of_step step)
 
-abbrev pub order_sizes : Scale → List ℕ → List ℕ → Result OrderSizes CertFaultKind
+abbrev pub order_sizes : TextFormat → List ℕ → List ℕ → Result OrderSizes CertFaultKind
 order_sizes scale n s = do
   transactions ← count_of scale n
   sessions ← number_of 0 (ranges_at scale).sessions s
   Ok (record { transactions = transactions; sessions = sessions })
 
-abbrev pub cycle_sizes : Scale → List ℕ → List ℕ → List ℕ → Result CycleSizes CertFaultKind
+abbrev pub cycle_sizes : TextFormat → List ℕ → List ℕ → List ℕ → Result CycleSizes CertFaultKind
 cycle_sizes scale n m l = do
   transactions ← count_of scale n
   links ← count_of scale m
   cost ← number_of 0 (ranges_at scale).cost l
   Ok (record { transactions = transactions; links = links; cost = cost })
 
--- the line that says how long the parts of a claim are, where the words behind `order` have this form
-abbrev pub claim_sizes : {O : Type 0} → (Words → Result O CertFaultKind) → Scale → Words → Result (Sizes O) CertFaultKind
+-- the line that says how long the parts of a claim are, where the words after `order` have this form
+abbrev pub claim_sizes : {O : Type 0} → (Words → Result O CertFaultKind) → TextFormat → Words → Result (Sizes O) CertFaultKind
 claim_sizes order scale line =
     by_word (codes "order") (λ fields. order fields >>= λ sizes. Ok (Order sizes))
     (codes "cycle") (λ fields. three_words (cycle_sizes scale) fields >>= λ sizes. Ok (Cycle sizes)) line
 
-abbrev pub sizes_line : Scale → Words → Result (Sizes OrderSizes) CertFaultKind
+abbrev pub sizes_line : TextFormat → Words → Result (Sizes OrderSizes) CertFaultKind
 sizes_line scale line = claim_sizes (two_words (order_sizes scale)) scale line
 
 -- ---- lines
@@ -191,32 +191,32 @@ abbrev pub judged : {X : Type 0} → Position → Position → Result X CertFaul
 judged at after (Ok x) = Ok (x, after)
 judged at after (Err kind) = Err (record { line = at.line; kind = kind })
 
--- how many bytes stand before the first line feed, or in all
+-- how many bytes come before the first line feed, or how many there are where there is none
 abbrev pub line_length : List ℕ → ℕ
 line_length bytes = position_or_len (λ byte. byte == 10) bytes
 
--- the next line: at most so many bytes and a line feed
+-- the next line: at most this many bytes and a line feed
 abbrev pub line_of : ℕ → List ℕ → Result (List ℕ) CertFaultKind
 line_of most bytes =
     if nat_lt most (line_length bytes) then Err TooLarge
     else if nat_lt (line_length bytes) (length bytes) then Ok (take (line_length bytes) bytes)
     else Err Truncated
 
--- the position behind a line of this length
+-- the position after a line of this length
 abbrev pub behind : Position → List ℕ → Position
 behind at line = record { line = at.line + 1; bytes = drop (length line + 1) at.bytes }
 
--- the next line, of at most so many bytes, judged by its form
+-- the next line, of at most this many bytes, judged by its form
 abbrev pub next : {X : Type 0} → ℕ → (List ℕ → Result X CertFaultKind) → Position → Reads X
 next most form at = do
   line ← judged at at (line_of most at.bytes)
   judged at (behind at line.0) (form line.0)
 
--- the next line behind the first, of as many bytes as the scale of the text has, judged by the form of its words
-abbrev pub words : {X : Type 0} → Scale → (Words → Result X CertFaultKind) → Position → Reads X
+-- the next line after the first, of at most as many bytes as the scale of the text allows, judged by the form of its words
+abbrev pub words : {X : Type 0} → TextFormat → (Words → Result X CertFaultKind) → Position → Reads X
 words scale form at = next (ranges_at scale).line_bytes (λ line. form (words_of line)) at
 
--- so many parts, each of which may go by its number, the first of them by this one
+-- this many parts, each of which may depend on its index, the first of which is given
 abbrev pub numbered : {X : Type 0} → (ℕ → Position → Reads X) → ℕ → ℕ → Position → Reads (List X)
 numbered read from zero at = Ok ([], at)
 numbered read from (suc n) at = do
@@ -224,7 +224,7 @@ numbered read from (suc n) at = do
   others ← numbered read (from + 1) n first.1
   Ok (first.0 ∷ others.0, others.1)
 
--- one kind of part so many times
+-- one kind of part, this many times
 abbrev pub repeated : {X : Type 0} → (Position → Reads X) → ℕ → Position → Reads (List X)
 repeated read n at = numbered (λ i. read) 0 n at
 
@@ -238,19 +238,19 @@ header_line line =
     else Err Header
 
 -- the link of this head, and the steps of its walk
-abbrev pub walk_of : Scale → Head × Position → Reads Link
+abbrev pub walk_of : TextFormat → HeaderLine × Position → Reads Link
 walk_of scale head = do
   walk ← repeated (words scale (step_line scale)) head.0.steps head.1
   Ok (with_walk head.0.link walk.0, walk.1)
 
-abbrev pub link_at : Scale → Position → Reads Link
+abbrev pub link_at : TextFormat → Position → Reads Link
 link_at scale at = words scale (head_line scale) at >>= walk_of scale
 
--- so many lines of numbers, each of as many as its number says
+-- this many lines of numbers, each with as many as its index says
 abbrev pub table_at : Version → ℕ → (ℕ → ℕ) → ℕ → Position → Reads (List (List ℕ))
 table_at version rows columns most at = numbered (λ s. words (Small version) (numbers_line (columns s) most)) 0 rows at
 
--- N lines of S numbers behind their mark, and nothing at `Atomic`
+-- N lines of S numbers after their mark, and nothing at `Atomic`
 abbrev pub clocks_at : Version → Level → ℕ → ℕ → Position → Reads (List (List ℕ))
 clocks_at version Causal transactions sessions at = do
   mark ← words (Small version) (word_line (codes "clocks")) at
@@ -278,17 +278,17 @@ abbrev pub claim_at : Version → Level → Sizes OrderSizes → Position → Re
 claim_at version level (Order sizes) at = order_at version level sizes.transactions sizes.sessions at
 claim_at version level (Cycle sizes) at = cycle_at version level sizes.transactions sizes.links sizes.cost at
 
--- what stands behind the first line
+-- what comes after the first line
 abbrev pub behind_header : (Version × Level) × Position → Reads Certificate
 behind_header header = do
   sizes ← words (Small header.0.0) (sizes_line (Small header.0.0)) header.1
   claim_at header.0.0 header.0.1 sizes.0 sizes.1
 
--- nothing stands behind the last line
+-- nothing comes after the last line
 abbrev pub ended : {X : Type 0} → X → Position → Result X CertFault
 ended read at = if length at.bytes == 0 then Ok read else Err (record { line = at.line; kind = Trailing })
 
--- a certificate, up to the line behind its last
+-- a certificate, up to the line after its last
 abbrev pub certificate_at : Position → Reads Certificate
 certificate_at at = next MAX_HEADER_BYTES header_line at >>= behind_header
 

@@ -11,7 +11,7 @@ use Rattle.tcc_cert.specs.declared.certificate.CycleClaim.{CycleClaim}
 use Rattle.tcc_cert.specs.declared.certificate.OrderClaim.{OrderClaim}
 use Rattle.tcc_graph.specs.Levels.{judged}
 
--- nowhere is it broken
+-- it is broken nowhere
 abbrev pub HoldsEverywhere : (ℕ × ℕ → Type 0) → Type 0
 HoldsEverywhere broken = (at : ℕ × ℕ) → broken at → ⊥
 

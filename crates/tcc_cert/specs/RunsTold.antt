@@ -1,4 +1,4 @@
--- The runs that tell an order.
+-- An order as runs.
 use Rattle.std.specs.Prelude.{ℕ, ◌+◌, ◌==◌, if◌then◌else◌, List, [], ◌∷◌, length, Option, None, Some}
 use Rattle.tcc_reads.specs.History.{History, count}
 use Rattle.tcc_graph.specs.Numbers.{at}
@@ -6,19 +6,19 @@ use Rattle.tcc_graph.specs.declared.level.Level.{Level}
 use Rattle.tcc_cert.specs.declared.large.Run.{Run}
 use Rattle.tcc_cert.specs.declared.large.RunsClaim.{RunsClaim}
 
--- a run before others: one of the session that the next is of becomes one with it
+-- a run before others: it becomes one with the next where both are of one session
 abbrev pub before_runs : Run → List Run → List Run
 before_runs run [] = run ∷ []
 before_runs run (next ∷ runs) =
     if run.session == next.session then record { session = run.session; count = run.count + next.count } ∷ runs
     else run ∷ next ∷ runs
 
--- one transaction of a session before some runs; `init` is of none
+-- one transaction of a session before some runs; `init` has no session
 abbrev pub with_first : Option (ℕ × ℕ) → List Run → List Run
 with_first None runs = runs
 with_first (Some place) runs = before_runs (record { session = place.0; count = 1 }) runs
 
--- as few runs as tell the order
+-- the fewest runs that give the order
 abbrev pub runs_told : History → List ℕ → List Run
 runs_told h [] = []
 runs_told h (number ∷ order) = with_first (at h number) (runs_told h order)

@@ -1,4 +1,4 @@
--- Tables of numbers, and where something stands in them.
+-- Tables of numbers, and positions in them.
 use Rattle.std.specs.Prelude.{ℕ, ◌<◌, ◌≤◌, ◌≡◌, ◌-◌, ◌⊎◌, List, length, All, slice_index}
 use Rattle.tcc_cert.specs.declared.version.Version.{Version}
 use Rattle.tcc_cert.specs.declared.version.Version.TheVariants.{One, Two}
@@ -8,12 +8,12 @@ pub use Rattle.tcc_graph.specs.Tables.{row_of}
 abbrev pub entry : List (List ℕ) → ℕ → ℕ → ℕ
 entry table a b = slice_index (row_of table a) b
 
--- so many rows, each with so many numbers
+-- this many rows, each with this many numbers
 pub record HasSize (rows : ℕ) (columns : ℕ) (table : List (List ℕ)) : Type 0 where
   pub long : length table ≡ rows
   pub wide : All (λ row. length row ≡ columns) table
 
--- so many rows, row s with as many numbers as its number says
+-- this many rows, row s with as many numbers as its index says
 pub record HasRows (rows : ℕ) (columns : ℕ → ℕ) (table : List (List ℕ)) : Type 0 where
   pub long : length table ≡ rows
   pub wide : (s : ℕ) → s < rows → length (row_of table s) ≡ columns s
@@ -27,7 +27,7 @@ lowest Two s = s
 abbrev pub far_entry : Version → List (List ℕ) → ℕ → ℕ → ℕ
 far_entry version far s v = slice_index (row_of far s) (v - lowest version s)
 
--- row s of `far` has a number for each of so many transactions from the lowest on
+-- row s of `far` has a number for each transaction from the lowest on, where there are this many
 abbrev pub HasFarSize : Version → ℕ → List (List ℕ) → Type 0
 HasFarSize version count far = HasRows count (λ s. count - lowest version s) far
 

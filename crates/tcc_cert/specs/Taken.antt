@@ -22,8 +22,8 @@ abbrev pub IsClaimTaken : (LinksSizes → List Link → Type 0) → LargeCertifi
 IsClaimTaken took certificate (head.Order k) = certificate ≡ claim.Order k
 IsClaimTaken took certificate (head.Cycle k) = (links : List Link) × took k.sizes links × (certificate ≡ claim.Cycle (with_links k links))
 
--- the bytes are the text of a certificate that is this claim, with links that were taken, and no more than such a text may have; or their
--- first fault, unless the reader failed or memory was refused
+-- A claim: the bytes are the text of a certificate that is this claim with links that were taken, and no more than such a text may have. A
+-- fault: it is their first, unless the reader failed or memory was refused.
 abbrev pub IsLargeTaken : List ℕ → (LinksSizes → List Link → Type 0) → Result LargeHead CertFault → Type 0
 IsLargeTaken bytes took (Ok k) =
     (certificate : LargeCertificate) × (large_certificate_read bytes ≡ Ok certificate) × IsClaimTaken took certificate k

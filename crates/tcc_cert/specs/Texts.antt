@@ -1,4 +1,4 @@
--- The text of a certificate: lines of words, the words parted by one space, each line ended by one line feed.
+-- The text of a certificate: lines of words, the words separated by one space, each line ended by one line feed.
 use Rattle.std.specs.Prelude.{ℕ, ◌≤◌, ◌≡◌, ◌-◌, List, [], ◌∷◌, ◌++◌, length, map, All, None, codes, decimal, flat_map}
 use Rattle.std.specs.List.{join_by}
 use Rattle.tcc_txn.specs.Names.{name_fault}
@@ -10,8 +10,8 @@ use Rattle.tcc_graph.specs.declared.level.Level.{Level}
 use Rattle.tcc_graph.specs.declared.level.Level.TheVariants.{Causal, Atomic}
 use Rattle.tcc_cert.specs.declared.version.Version.{Version}
 use Rattle.tcc_cert.specs.declared.version.Version.TheVariants.{One, Two}
-use Rattle.tcc_cert.specs.declared.ranges.Scale.{Scale}
-use Rattle.tcc_cert.specs.declared.ranges.Scale.TheVariants.{Small}
+use Rattle.tcc_cert.specs.declared.ranges.TextFormat.{TextFormat}
+use Rattle.tcc_cert.specs.declared.ranges.TextFormat.TheVariants.{Small}
 use Rattle.tcc_cert.specs.Ranges.{ranges_at, ranges_of}
 use Rattle.tcc_cert.specs.Tables.{lowest, HasRows, IsCapped}
 use Rattle.tcc_cert.specs.declared.certificate.Certificate.{Certificate}
@@ -23,7 +23,7 @@ use Rattle.tcc_cert.specs.declared.certificate.OrderClaim.{OrderClaim}
 abbrev pub Words : Type 0
 Words = List (List ℕ)
 
--- words parted by one space
+-- words separated by one space
 abbrev pub words_text : Words → List ℕ
 words_text words = join_by (λ word. word) (codes " ") words
 
@@ -93,29 +93,29 @@ lines_text lines = flat_map line_text lines
 abbrev pub certificate_text : Certificate → List ℕ
 certificate_text certificate = lines_text (header_of certificate ∷ claim_lines certificate)
 
--- a number of transactions, links or steps
-pub record IsCount (scale : Scale) (n : ℕ) : Type 0 where
+-- a count of transactions, links or steps
+pub record IsCount (scale : TextFormat) (n : ℕ) : Type 0 where
   pub some : 1 ≤ n
   pub limit : n ≤ (ranges_at scale).count
 
--- numbers of transactions, and the places in clocks
-abbrev pub IsNumber : Scale → ℕ → Type 0
+-- indices of transactions, and places in clocks
+abbrev pub IsNumber : TextFormat → ℕ → Type 0
 IsNumber scale n = n ≤ (ranges_at scale).number
 
 abbrev pub IsKey : List ℕ → Type 0
 IsKey key = name_fault key ≡ None
 
-abbrev pub HasStepText : Scale → Step → Type 0
+abbrev pub HasStepText : TextFormat → Step → Type 0
 HasStepText scale (step.Session u v) = IsNumber scale u × IsNumber scale v
 HasStepText scale (step.Reads u v key) = IsNumber scale u × IsNumber scale v × IsKey key
 
-abbrev pub HasLinkText : Scale → Link → Type 0
+abbrev pub HasLinkText : TextFormat → Link → Type 0
 HasLinkText scale (link.Session u v) = IsNumber scale u × IsNumber scale v
 HasLinkText scale (link.Reads u v key) = IsNumber scale u × IsNumber scale v × IsKey key
 HasLinkText scale (link.Derived b a key c walk) =
     IsNumber scale b × IsNumber scale a × IsKey key × IsNumber scale c × IsCount scale (length walk) × All (HasStepText scale) walk
 
--- so many rows, each with as many numbers as its number says, none above the limit
+-- this many rows, each with as many numbers as its index says, none above the limit
 pub record HasTableText (rows : ℕ) (columns : ℕ → ℕ) (most : ℕ) (table : List (List ℕ)) : Type 0 where
   pub size : HasRows rows columns table
   pub capped : IsCapped most table

@@ -11,8 +11,8 @@ pub struct OrderClaim {
     pub order: Numbers,
     /// How many sessions there are.
     pub sessions: u32,
-    /// At `Causal` a row for each transaction, in it for each of the sessions the greatest place from which the
-    /// transaction is reached, 0 for none. At `Atomic` there are no clocks.
+    /// At `Causal` a row for each transaction. For each session it has the greatest place from which the transaction is
+    /// reached, 0 for none. At `Atomic` there are no clocks.
     pub clocks: Table,
 }
 
@@ -25,11 +25,11 @@ pub struct CycleClaim {
     pub links: Links,
     /// What they cost: no cycle costs less.
     pub least: u32,
-    /// Row a has for each c the least length of a walk from a to c that the level allows, `least` where there is none or
-    /// it is greater.
+    /// Row a has for each c the least length of a walk from a to c that the level allows. It has `least` where there is
+    /// none or it is greater.
     pub near: Table,
-    /// Row s has for each v the least cost of a route from s to v, `least` where there is none or it is greater. In
-    /// version 2 it is of the v from s upward alone, and of the routes that meet no number below s.
+    /// Row s has for each v the least cost of a route from s to v, `least` where there is none or it is greater. In version
+    /// 2 it has only the v from s upward, and only routes that meet no number below s count.
     pub far: Table,
 }
 

@@ -1,4 +1,4 @@
-//! A certificate of a cycle that goes out row by row, so that nobody has to hold its tables.
+//! A certificate of a cycle that is written row by row, so that nobody has to hold its tables.
 ghost use Rattle.std.specs.Prelude.{◌≡◌, ◌≢◌, ℕ, List, [], ◌∷◌, ◌++◌, Option, Result, Err, IsErr, OnOk, OnErr, IfOk, IsOk, take, codes, length};
 ghost use Rattle.std.specs.Io.KnownBytes.{Appends, Keeps};
 ghost use Rattle.tcc_cert.specs.{declared.certificate.Certificate.TheVariants.Cycle, declared.certificate.CycleClaim.CycleClaim, declared.fault.CertWriteFault.TheVariants.Device, Given.Sends};
@@ -33,8 +33,8 @@ enum Stage {
     Failed,
 }
 
-/// Writes a claim of a cycle as its rows come: those of `near` in order, then those of `far`, and then the end. After
-/// a write that failed nothing more goes out, and each further call answers so.
+/// Writes a claim of a cycle as its rows come: those of `near` in order, then those of `far`, and then the end. After a
+/// write that failed nothing more is written, and each further call reports that failure.
 pub struct CycleWriter<'w, W: Write> {
     out: &'w mut W,
     outgoing: Outgoing,
@@ -53,7 +53,7 @@ impl<W: Write> Drop for CycleWriter<'_, W> {
     }
 }
 
-/// The line behind the rows, and all that still waits.
+/// The line after the rows, and all that still waits.
 fn last_line<W: Write>(outgoing: &mut Outgoing, out: &mut W) -> io::Result<()>
     ensures sent { IsSent result (W.contents out.old) outgoing.old (W.contents out.new) outgoing.new (line_text (codes "end" ∷ [])) }
     ensures none { OnOk result (outgoing.new ≡ []) }
@@ -62,7 +62,7 @@ fn last_line<W: Write>(outgoing: &mut Outgoing, out: &mut W) -> io::Result<()>
     outgoing.finish(out)
 }
 
-/// The line before the rows of `far`, if it did not go out yet.
+/// The line before the rows of `far`, if it was not written yet.
 fn far_line<W: Write>(outgoing: &mut Outgoing, out: &mut W, stage: Stage) -> io::Result<()>
     ensures { IsSent result (W.contents out.old) outgoing.old (W.contents out.new) outgoing.new (far_mark stage) }
 {
@@ -73,7 +73,7 @@ fn far_line<W: Write>(outgoing: &mut Outgoing, out: &mut W, stage: Stage) -> io:
     }
 }
 
-/// What comes behind the last row.
+/// What comes after the last row.
 fn close<W: Write>(outgoing: &mut Outgoing, out: &mut W, stage: Stage) -> io::Result<()>
     ensures sent { IsSent result (W.contents out.old) outgoing.old (W.contents out.new) outgoing.new (far_mark stage ++ line_text (codes "end" ∷ [])) }
     ensures none { OnOk result (outgoing.new ≡ []) }
@@ -82,8 +82,8 @@ fn close<W: Write>(outgoing: &mut Outgoing, out: &mut W, stage: Stage) -> io::Re
     last_line(outgoing, out)
 }
 
-/// Writes the lines before the rows of a claim about so many transactions; what of them waits to go out is for
-/// `CycleWriter::behind`. Where a write fails, a part of them, from their front, went out.
+/// Writes the lines before the rows of a claim about `count` transactions. Bytes of them that still wait to be written are
+/// for `CycleWriter::behind`. Where a write fails, a part of them was written, from their front.
 pub fn write_first_lines<W: Write>(
     out: &mut W,
     version: Version,
@@ -109,7 +109,7 @@ pub fn write_first_lines<W: Write>(
 impl<'w, W: Write> CycleWriter<'w, W> {
     ghost use Rattle.tcc_cert.specs.Given.{HasTaken, HasFailed};
 
-    /// Goes on behind the lines before the rows, of which these bytes wait to go out.
+    /// Goes on after the lines before the rows, of which these bytes wait to be written.
     pub fn behind(out: &'w mut W, outgoing: Outgoing) -> CycleWriter<'w, W>
         ensures same_reference { result.out.ghost_name ≡ out.entry.ghost_name }
         ensures same { result.out.now ≡ out.old }
@@ -126,7 +126,7 @@ impl<'w, W: Write> CycleWriter<'w, W> {
         }
     }
 
-    /// Begins the text of a claim about so many transactions, whose rows are then to come. It is for those who write a
+    /// Begins the text of a claim about `count` transactions, whose rows are then to come. It is for callers that write a
     /// certificate's rows as they are made, and hold none of them.
     pub fn begin(
         out: &'w mut W,
@@ -144,7 +144,7 @@ impl<'w, W: Write> CycleWriter<'w, W> {
         Ok(CycleWriter::behind(out, outgoing))
     }
 
-    /// Keeps in mind whether it was sent.
+    /// Records whether it was sent.
     fn note(&mut self, sent: io::Result<()>) -> Result<(), CertWriteFault>
         ensures out { self.new.out ≡ self.old.out }
         ensures outgoing { self.new.outgoing ≡ self.old.outgoing }
@@ -162,7 +162,7 @@ impl<'w, W: Write> CycleWriter<'w, W> {
         }
     }
 
-    /// The line before the rows of the table, if it did not go out yet; that of `near` is among the first lines.
+    /// The line before the rows of the table, if it was not written yet; that of `near` is among the first lines.
     fn mark(&mut self, table: CycleTable) -> Result<(), CertWriteFault>
         ensures same_reference { self.new.out.ghost_name ≡ self.old.out.ghost_name }
         ensures sent { self.old.stage ≢ Stage.Failed
@@ -183,8 +183,8 @@ impl<'w, W: Write> CycleWriter<'w, W> {
         }
     }
 
-    /// The next row of a table. One of `near` has as many numbers as there are transactions; one of `far` too in version 1, in
-    /// version 2 as many as from the row's own on.
+    /// The next row of a table. One of `near` has a number for each transaction, and so has one of `far` in version 1. In
+    /// version 2 row s of `far` has a number for each transaction from s on.
     pub fn row(&mut self, table: CycleTable, row: &[u32]) -> Result<(), CertWriteFault>
         ensures same_reference { self.new.out.ghost_name ≡ self.old.out.ghost_name }
         ensures whole { (before : Option (List ℕ)) (count : ℕ) (k : CycleClaim) → HasTaken W.contents before count k self.old → MayTake table k
@@ -204,7 +204,7 @@ impl<'w, W: Write> CycleWriter<'w, W> {
         }
     }
 
-    /// The end: where all rows came, the whole text went out.
+    /// The end. Where all rows came, the whole text was written.
     pub fn end(self) -> Result<(), CertWriteFault>
         ensures whole { (before : Option (List ℕ)) (k : CycleClaim) → HasTaken W.contents before (length k.near) k self.entry
             → OnOk result (Appends before (W.contents self.exit.0.now) (certificate_text (Cycle k))) }

@@ -1,13 +1,13 @@
-//! Numbers as they stand in a line, each after a space, set into bytes that have room for them.
+//! Numbers as a line has them, each after a space, set into bytes that have room for them.
 ghost use Rattle.std.specs.Prelude.{◌≡◌, ◌≤◌, ◌+◌, ◌*◌, ◌++◌, codes, decimal, flat_map, length, take};
 ghost use Rattle.tcc_cert.specs.declared.digits.TheConstants.{NUMBER_BYTES};
 
 use itoa::Buffer;
 
-/// A number of 32 bits takes no more bytes, the space before it among them.
+/// The most bytes that a number of 32 bits takes, with the space before it.
 pub(crate) const NUMBER_BYTES: usize = 11;
 
-/// Sets these bytes, and says where they end.
+/// Sets these bytes, and returns where they end.
 fn set(bytes: &mut [u8], at: usize, piece: &[u8]) -> usize
     requires { at + length piece.now ≤ length bytes.old }
     ensures end { result ≡ at + length piece.now }
@@ -19,7 +19,7 @@ fn set(bytes: &mut [u8], at: usize, piece: &[u8]) -> usize
     end
 }
 
-/// Sets a number after a space, and says where it ends. Most numbers of a row have one digit or two.
+/// Sets a number after a space, and returns where it ends. Most numbers of a row have one digit or two.
 fn set_number(bytes: &mut [u8], at: usize, number: u32) -> usize
     requires { at + NUMBER_BYTES ≤ length bytes.old }
     ensures end { result ≤ at + NUMBER_BYTES }
@@ -50,7 +50,7 @@ fn set_number(bytes: &mut [u8], at: usize, number: u32) -> usize
     }
 }
 
-/// Sets numbers, each after a space, and says where they end.
+/// Sets numbers, each after a space, and returns where they end.
 pub(crate) fn set_numbers(bytes: &mut [u8], at: usize, numbers: &[u32]) -> usize
     requires { at + NUMBER_BYTES * length numbers.now ≤ length bytes.old }
     ensures end { result ≤ at + NUMBER_BYTES * length numbers.now }

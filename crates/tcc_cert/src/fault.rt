@@ -26,13 +26,13 @@ pub enum CertFaultKind {
     /// The first line names no version, or no level of it.
     #[error("the first line is none that a certificate begins with")]
     Header,
-    /// The first word is none that the line may begin with, or a key is no name.
+    /// The first word is not one that the line may begin with, or a key is not a name.
     #[error("a word that cannot stand there")]
     Word,
-    /// A word is no decimal number without leading zeros, or 0 where there has to be one at least.
+    /// A word is not a decimal number without leading zeros, or is 0 where the least is 1.
     #[error("no number")]
     Number,
-    /// There are more words than the line has, or fewer.
+    /// There are more words than the line may have, or fewer.
     #[error("another number of words")]
     Count,
     /// A number is above its range, or the line has more bytes than the version allows.

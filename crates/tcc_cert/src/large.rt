@@ -3,10 +3,10 @@ use crate::Links;
 use tcc_graph::{Level, Link, Step};
 use tcc_txn::{ListOf, NoMemory};
 
-/// The next so many committed transactions of a session, in an order that keeps the order of each session.
+/// The next `count` committed transactions of a session, in an order that keeps the order of each session.
 #[derive(Clone, Copy)]
 pub struct Run {
-    /// The number of the session, counted from 0 as the history has them.
+    /// The index of the session, counted from 0 as the history has them.
     pub session: u32,
     /// How many transactions. In a certificate's text it is at least 1.
     pub count: u32,
@@ -15,7 +15,7 @@ pub struct Run {
 /// An order of all transactions but `init`, which comes first: run by run.
 pub type Runs = ListOf<Run>;
 
-/// A claim that an order, told as runs, is a commit order of a history at a level. Nothing else is needed to check it.
+/// A claim that an order, given as runs, is a commit order of a history at a level. Nothing else is needed to check it.
 #[derive(Drop)]
 pub struct RunsClaim {
     pub level: Level,
@@ -36,7 +36,7 @@ pub struct LinksClaim {
     pub links: Links,
     /// What they cost.
     pub cost: u32,
-    /// Where it is claimed that no cycle costs less, the runs of an order that keeps all session and reads-from pairs. Up
+    /// Where it is claimed that no cycle costs less: the runs of an order that keeps all session and reads-from pairs. Up
     /// to cost 4 none are needed.
     pub least: Option<Runs>,
 }
@@ -70,7 +70,7 @@ pub struct LinksHead {
     pub least: Option<Runs>,
 }
 
-/// A claim about a history of any size whose links, where it has some, were given to who takes them.
+/// A claim about a history of any size whose links, where it has some, were given to a taker.
 #[derive(Drop)]
 pub enum LargeHead {
     /// An order is a commit order.
@@ -79,7 +79,7 @@ pub enum LargeHead {
     Cycle(LinksHead),
 }
 
-/// Who takes the links of a claim one by one, as a text gives them, and the walks of these step by step.
+/// A taker of a claim's links: it takes them one by one, as a text gives them, and the walks of these step by step.
 pub trait TakesLinks {
     ghost use Rattle.std.specs.Prelude.{◌++◌, ◌∷◌, [], List, OnOk};
     ghost use Rattle.tcc_reads.specs.History.{History};
@@ -87,13 +87,13 @@ pub trait TakesLinks {
     ghost use Rattle.tcc_cert.specs.Reading.{with_walk};
     ghost use Rattle.tcc_cert.specs.declared.large.LinksSizes.{LinksSizes};
 
-    /// They are taken for this history.
+    /// It is ready to take links of this history.
     ghost ready: { Self → History → Type 0 };
 
-    /// For this history, of a claim of these sizes, these links were taken.
+    /// For this history, these links were taken of a claim of these sizes.
     ghost took: { Self → History → LinksSizes → List Link → Type 0 };
 
-    /// And then a link without its walk, and of that these steps.
+    /// And then a link without its walk, and these steps of that walk.
     ghost takes: { Self → History → LinksSizes → List Link → Link → List Step → Type 0 };
 
     /// A claim begins.

@@ -1,4 +1,4 @@
-//! How the text of version 3 goes out.
+//! How the text of version 3 is written.
 ghost use Rattle.std.specs.Prelude.{◌≡◌, ℕ, List, [], ◌∷◌, OnOk, OnErr, take, map, codes, decimal, length};
 ghost use Rattle.std.specs.Io.KnownBytes.{Appends};
 ghost use Rattle.tcc_cert.specs.{private.Writing.IsSent, Texts.line_text, Texts.lines_text};
@@ -124,7 +124,7 @@ fn whole<W: Write>(out: &mut W, certificate: &LargeCertificate) -> io::Result<()
     outgoing.finish(out)
 }
 
-/// Writes the text of a certificate in version 3. Where a write fails, a part of the text, from its front, went out; an
+/// Writes the text of a certificate in version 3. Where a write fails, a part of the text was written, from its front. An
 /// interrupted write and one that takes no bytes are failures too.
 pub fn write_large<W: Write>(
     certificate: &LargeCertificate,

@@ -26,7 +26,7 @@ pub fn parts_before_the_fault()
         → ((parts_read bytes).fault ≡ Some f.kind) × ((parts_read bytes).line ≡ f.line) }
 {}
 
-/// Whatever fault is answered of a text, that of a failed reader and of refused memory too: no line before it has one.
+/// Whatever fault is returned for a text, also that of a failed reader or of refused memory: no line before it has a fault.
 pub fn no_fault_before()
     ensures { (bytes : List ℕ) (answered first : CertFault) → IsReading bytes (Err answered) → certificate_read bytes ≡ Err first
         → answered.line ≤ first.line }

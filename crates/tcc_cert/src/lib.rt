@@ -32,7 +32,7 @@ pub use large_writing::write_large;
 pub use lists::{Links, Numbers, Table};
 pub use outgoing::Outgoing;
 pub use part::{CycleHead, OrderHead, Part};
-pub use ranges::Scale;
+pub use ranges::TextFormat;
 pub use reading::{CertReader, LargeReader, VersionReader, read, read_large, reader_of, with_walk};
 pub use runs::{order_claim, runs_of};
 pub use version::Version;

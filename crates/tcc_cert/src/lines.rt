@@ -1,4 +1,4 @@
-//! Lines of words and of numbers, as they go out.
+//! Lines of words and of numbers, as they are written.
 ghost use Rattle.std.specs.Prelude.{◌≡◌, ◌∷◌, map, flat_map, codes, ◌++◌};
 ghost use Rattle.tcc_cert.specs.{private.Writing.IsSent, private.LineWords.word_text};
 ghost use Rattle.tcc_cert.specs.Texts.{words_text, line_text, lines_text, numbers_words, table_lines};

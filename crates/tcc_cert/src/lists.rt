@@ -8,5 +8,5 @@ pub type Numbers = ListOf<u32>;
 /// Rows of numbers, of whatever lengths.
 pub type Table = ListOf<Numbers>;
 
-/// Links in order. That each begins where the one before it ends is said by the contracts that speak of cycles.
+/// Links in order. The contracts about cycles say that each begins where the one before it ends.
 pub type Links = ListOf<Link>;

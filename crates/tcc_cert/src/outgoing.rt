@@ -1,4 +1,4 @@
-//! Bytes that are gathered before they go out, so that few writes are made.
+//! Bytes that are gathered before they are written, so that there are few writes.
 ghost use Rattle.std.specs.Prelude.{◌≡◌, ◌+◌, ◌*◌, ◌≤◌, ◌++◌, [], OnOk, codes, decimal, flat_map, length};
 ghost use Rattle.tcc_cert.specs.{private.Writing.IsSent, declared.digits.TheConstants.NUMBER_BYTES, declared.outgoing.TheConstants.OUTGOING_BYTES};
 
@@ -7,13 +7,13 @@ use std::io::{self, Write};
 use std::marker::Model;
 use tcc_base::write_out;
 
-/// So many bytes are gathered before a write.
+/// How many bytes are gathered before a write.
 const OUTGOING_BYTES: usize = 8192;
 
-/// So many numbers are gathered at a time: room for them is asked for once, and what it leaves free of the bytes is little.
+/// How many numbers are gathered at a time. Room for them is asked for once, and few of the bytes stay unused by it.
 const NUMBERS: usize = 64;
 
-/// The bytes that wait to go out.
+/// The bytes that wait to be written.
 #[derive(Drop)]
 pub struct Outgoing {
     bytes: [u8; OUTGOING_BYTES],
@@ -84,7 +84,7 @@ impl Outgoing {
         Ok(())
     }
 
-    /// Makes room for so many bytes.
+    /// Makes room for `count` bytes.
     fn make_room<W: Write>(&mut self, out: &mut W, count: usize) -> io::Result<()>
         requires { count ≤ OUTGOING_BYTES }
         ensures sent { IsSent result (W.contents out.old) self.old (W.contents out.new) self.new [] }
@@ -104,8 +104,8 @@ impl Outgoing {
         self.len = set_numbers(&mut self.bytes, self.len, numbers);
     }
 
-    /// Gathers numbers, each after a space, and sends what was gathered before where there is no room for more: that is
-    /// asked once for many of them.
+    /// Gathers numbers, each after a space. Where there is no room for more, what was gathered before is sent. Whether
+    /// there is room is asked once for many of them.
     pub(crate) fn put_numbers<W: Write>(&mut self, out: &mut W, numbers: &[u32]) -> io::Result<()>
         ensures { IsSent result (W.contents out.old) self.old (W.contents out.new) self.new (flat_map (λ number. codes " " ++ decimal number) numbers.now) }
     {

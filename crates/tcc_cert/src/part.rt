@@ -63,9 +63,9 @@ impl CycleHead {
 /// What a certificate's text gives at a time.
 #[derive(Drop)]
 pub enum Part {
-    /// What stands before the clocks of a claim of an order.
+    /// What comes before the clocks of a claim of an order.
     Order(OrderHead),
-    /// What stands before the links of a claim of a cycle.
+    /// What comes before the links of a claim of a cycle.
     Cycle(CycleHead),
     /// The next link of the cycle.
     Link(Link),

@@ -16,8 +16,7 @@ use crate::version_3::{
 /// The most bytes of the first line, which says the version, without its line feed.
 pub(crate) const MAX_HEADER_BYTES: usize = 8191;
 
-/// The greatest count, number of a transaction, number of sessions and cost, and the most bytes of a line after the
-/// first.
+/// The greatest count, index of a transaction, number of sessions and cost, and the most bytes of a line after the first.
 #[derive(Clone, Copy)]
 pub(crate) struct Ranges {
     pub(crate) count: u32,
@@ -52,7 +51,7 @@ pub(crate) fn ranges_of(version: Version) -> Ranges
 
 /// How large the numbers of a text may be.
 #[derive(Clone, Copy)]
-pub enum Scale {
+pub enum TextFormat {
     /// As a version with tables has them.
     Small(Version),
     /// As version 3 has them.
@@ -60,13 +59,13 @@ pub enum Scale {
 }
 
 /// The ranges of a text.
-pub(crate) fn ranges_at(scale: Scale) -> Ranges
+pub(crate) fn ranges_at(scale: TextFormat) -> Ranges
     ensures value { result ≡ ranges_at scale }
     ensures lines { result.line_bytes ≤ V2_MAX_LINE_BYTES }
 {
     match scale {
-        Scale::Small(version) => ranges_of(version),
-        Scale::Large => Ranges {
+        TextFormat::Small(version) => ranges_of(version),
+        TextFormat::Large => Ranges {
             count: V3_MAX_COUNT,
             number: V3_MAX_NUMBER,
             sessions: V3_MAX_SESSIONS,

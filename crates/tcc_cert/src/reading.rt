@@ -22,7 +22,7 @@ mod versions;
 mod window;
 mod words;
 
-use crate::ranges::{MAX_HEADER_BYTES, Scale};
+use crate::ranges::{MAX_HEADER_BYTES, TextFormat};
 use crate::{CertFault, CertFaultKind, Certificate, Links, Numbers, Part, Table, Version};
 use input::{Input, at_line};
 pub use large::read_large;
@@ -56,7 +56,7 @@ fn word_line(alloc: Global, line: &[u8], wanted: &[u8]) -> Result<(), CertFaultK
 fn mark<R: Read>(
     alloc: Global,
     input: &mut Input<R>,
-    scale: Scale,
+    scale: TextFormat,
     wanted: &[u8],
 ) -> Result<(), CertFault>
     ensures works { OnOk result (AsBefore input.old input.new) }
@@ -102,7 +102,7 @@ struct Tables {
     far: Vec<Numbers>,
 }
 
-/// One link more, or one row more of a table.
+/// One more link, or one more row of a table.
 fn push<R: Read, T: Drop>(
     parts: &CertReader<R>,
     list: &mut Vec<T>,
@@ -118,7 +118,7 @@ fn push<R: Read, T: Drop>(
     }
 }
 
-/// One link more, or one row more of the table that the part is of. A claim and the end are neither.
+/// One more link, or one more row of the table that the part is of. A claim and the end are neither.
 fn keep<R: Read>(parts: &CertReader<R>, tables: &mut Tables, part: Part) -> Result<(), CertFault>
     ensures kept { OnOk result (HasRow part tables.old tables.new) }
     ensures refused { IfErr result (λ fault. fault ≡ record { line = line_wanted parts.now; kind = CertFaultKind.NoMemory }) }
@@ -133,7 +133,7 @@ fn keep<R: Read>(parts: &CertReader<R>, tables: &mut Tables, part: Part) -> Resu
     }
 }
 
-/// The links and rows that come behind the claim.
+/// The links and rows that come after the claim.
 fn collect<R: Read>(alloc: Global, parts: &mut CertReader<R>) -> Result<Tables, CertFault>
     requires { is_new parts.old ≡ false }
     ensures { (ahead : Parts) → IsAhead R.remaining parts.old ahead → Collects ahead result }
@@ -176,11 +176,11 @@ fn whole<R: Read>(alloc: Global, parts: &mut CertReader<R>) -> Result<Certificat
     }
 }
 
-/// Reads the certificate whose text the reader gives, nothing behind it, or the first line with a fault. A line has at
-/// most 8,191 bytes and a line feed, in version 2 behind the first at most 36,863 bytes.
-/// Where the reader fails, that is the fault `Read` at the line that was wanted then,
-/// unless a line before it has another. It is for those who want the certificate as a value, as `tcc_check::check` takes
-/// it; who only goes through it once takes a `CertReader`, which holds none of it.
+/// Reads the certificate whose text the reader gives, with nothing after it, or returns the first line with a fault. A line
+/// has at most 8,191 bytes and a line feed, in version 2 after the first at most 36,863 bytes. Where the reader fails, the
+/// fault is `Read` at the line that was wanted then, unless a line before it has another. It is for callers that want the
+/// certificate as a value, as `tcc_check::check` takes it. To go through it once, use a `CertReader`, which holds none of
+/// it.
 pub fn read<R: Read + Drop>(alloc: Global, reader: R) -> Result<Certificate, CertFault>
     ensures { IfSome (R.remaining reader) (λ bytes. IsReading bytes result) }
 {

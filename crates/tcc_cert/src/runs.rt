@@ -1,4 +1,4 @@
-//! An order told as runs, each as long as it goes: one pass over the order, in O(N) for N transactions.
+//! An order as runs, each as long as possible: one pass over the order, in O(N) for N transactions.
 ghost use Rattle.std.specs.Prelude.{◌≡◌, IfOk};
 ghost use Rattle.tcc_cert.specs.RunsTold.{order_claim_of, runs_told};
 
@@ -7,7 +7,7 @@ use std::alloc::Global;
 use tcc_graph::{LargeGraph, Level};
 use tcc_txn::NoMemory;
 
-/// The runs that tell an order of a history: neighbours of one session are in one run, and `init` is in none.
+/// The runs of an order of a history. Neighbours of one session are in one run, and `init` is in none.
 pub fn runs_of(alloc: Global, graph: &LargeGraph, order: &[u32]) -> Result<Runs, NoMemory>
     ensures { IfOk result (λ runs. runs ≡ runs_told graph.now order.now) }
 {
@@ -19,7 +19,7 @@ pub fn runs_of(alloc: Global, graph: &LargeGraph, order: &[u32]) -> Result<Runs,
         };
         match last {
             Some(run) if run.session == session => {
-                // There are not so many transactions.
+                // No history has so many transactions.
                 let Some(count) = run.count.checked_add(1) else {
                     return Err(NoMemory);
                 };

@@ -1,6 +1,6 @@
 //! The versions of certificates.
 
-/// A version of the certificate's text: how large its numbers may be, and from where on the rows of `far` go.
+/// A version of the certificate's text: how large its numbers may be, and where the rows of `far` begin.
 #[derive(Clone, Copy)]
 pub enum Version {
     /// Row s of `far` has a number for each transaction.

@@ -1,5 +1,5 @@
-//! The ranges of version 1 of the certificate's text. They belong to the format: whatever the limits of a history
-//! become, a text of version 1 is one within these.
+//! The ranges of version 1 of the certificate's text. They belong to the format: whatever the limits of a history become, a
+//! text of version 1 is one within these.
 
 /// The greatest count of transactions, of links, or of the steps of a walk. The least is 1.
 pub const V1_MAX_COUNT: u32 = 1024;
@@ -7,7 +7,7 @@ pub const V1_MAX_COUNT: u32 = 1024;
 /// The greatest count of sessions.
 pub const V1_MAX_SESSIONS: u32 = 64;
 
-/// The greatest number of a transaction, and the greatest place in a clock.
+/// The greatest index of a transaction, and the greatest place in a clock.
 pub const V1_MAX_NUMBER: u32 = 1023;
 
 /// The greatest cost of a cycle, and the greatest number in its tables.

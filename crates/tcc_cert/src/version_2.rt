@@ -6,7 +6,7 @@ pub const V2_MAX_COUNT: u32 = 4096;
 /// The greatest count of sessions.
 pub const V2_MAX_SESSIONS: u32 = 64;
 
-/// The greatest number of a transaction, and the greatest place in a clock.
+/// The greatest index of a transaction, and the greatest place in a clock.
 pub const V2_MAX_NUMBER: u32 = 4095;
 
 /// The greatest cost of a cycle, and the greatest number in its tables.

@@ -3,7 +3,7 @@
 /// The greatest count of transactions, of links, or of the steps of a walk. The least is 1.
 pub const V3_MAX_COUNT: u32 = 16_777_216;
 
-/// The greatest number of a transaction, and the most transactions of a run.
+/// The greatest index of a transaction, and the most transactions of a run.
 pub const V3_MAX_NUMBER: u32 = 16_777_215;
 
 /// The greatest count of sessions.
@@ -21,5 +21,5 @@ pub const V3_MAX_COST: u32 = u32::MAX;
 /// The most bytes of a line after the first, without its line feed.
 pub const V3_MAX_LINE_BYTES: usize = 127;
 
-/// The most bytes of a text: past them it is given up, as if the reader had failed.
+/// The most bytes of a text. Where it goes on past them it is given up, as if the reader had failed.
 pub const V3_MAX_TEXT_BYTES: usize = 1_073_741_824;

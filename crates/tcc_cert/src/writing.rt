@@ -1,4 +1,4 @@
-//! How a certificate's text goes out.
+//! How a certificate's text is written.
 ghost use Rattle.std.specs.Prelude.{◌≡◌, ℕ, List, [], ◌∷◌, ◌++◌, OnOk, OnErr, take, map, flat_map, codes, decimal, length};
 ghost use Rattle.std.specs.Io.KnownBytes.{Appends};
 ghost use Rattle.tcc_graph.specs.declared.step.Step.TheVariants as step;
@@ -113,7 +113,7 @@ pub(crate) fn link_lines<W: Write>(
     Ok(())
 }
 
-/// The clocks behind their mark, and nothing where the level has none.
+/// The clocks after their mark, and nothing where the level has none.
 fn clocks<W: Write>(outgoing: &mut Outgoing, out: &mut W, claim: &OrderClaim) -> io::Result<()>
     ensures { IsSent result (W.contents out.old) outgoing.old (W.contents out.new) outgoing.new (lines_text (clocks_lines claim.now.level claim.now.clocks)) }
 {
@@ -208,8 +208,8 @@ fn write_order<W: Write>(out: &mut W, claim: &OrderClaim) -> io::Result<()>
     outgoing.finish(out)
 }
 
-/// Writes the text of the certificate. Where a write fails, a part of the text, from its front, went out; an
-/// interrupted write and one that takes no bytes are failures too.
+/// Writes the text of the certificate. Where a write fails, a part of the text was written, from its front. An interrupted
+/// write and one that takes no bytes are failures too.
 pub fn write<W: Write>(certificate: &Certificate, out: &mut W) -> Result<(), CertWriteFault>
     ensures whole { OnOk result (Appends (W.contents out.old) (W.contents out.new) (certificate_text certificate.now)) }
     ensures part { OnErr result ((n : ℕ) × Appends (W.contents out.old) (W.contents out.new) (take n (certificate_text certificate.now))) }

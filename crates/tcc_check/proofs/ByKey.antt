@@ -227,7 +227,7 @@ module _ (readings : List (ℕ × ℕ)) (row : List ℕ) (u : ℕ) (old new : Li
             has ∙ ap (λ (z : ℕ × ℕ). get_or row z.0 0) (sym here),
           )
 
--- one group more
+-- one more group
 module _ (groups : List (ℕ × ℕ)) (members : List ℕ) (are : AreGroupsOf groups members) (row : List ℕ) (u i : ℕ) (run : List ℕ)
     (inside : i < length groups) (is : run ≡ take (group groups i).1 (drop (begin groups i) members)) (old now : List ℕ)
     (before : IsLowered (SeenReading (begin groups i) (links_by groups members) row u) old now) where
@@ -356,7 +356,7 @@ module _ (sources readers row : List ℕ) (u : ℕ) (old new : List ℕ) where
       → IsLowered (PairWeighs sources readers row u) old new
   all-pairs i all lowered = subst (λ (z : ℕ). IsLowered (SeenPair z sources readers row u) old new) all lowered
 
--- ---- written of keys
+-- ---- the keys that a transaction writes
 
 -- the readings of a key are those of the list
 pub pairs-there : (h : History) (row : List ℕ) (u k : ℕ) (sources readers old new : List ℕ) → length sources ≡ length readers
@@ -415,7 +415,7 @@ module _ (h : History) (written row : List ℕ) (u : ℕ) (old new : List ℕ) w
       ))
       lowered
 
-  -- the written of the keys that u writes
+  -- the keys that u writes, by their indices
   pub written-written : (u ≡ 0 → ⊥) → u < count h → map (key_at h) written ≡ (entry_at h u).writes → IsLowered (KeysWeigh h written row u) old new
       → IsLowered (ContradictsBy h row u) old new
   written-written other below are lowered = lowered_as _ _ old new to back lowered

@@ -12,7 +12,7 @@ use Rattle.tcc_check.specs.private.Weights.{unlinked}
 use Rattle.tcc_check.specs.private.Searches.{HoldsBelow, IsFirstBelow, IsLongRun, IsLongRunTo}
 use Rattle.tcc_check.proofs.First.{holds_below_more}
 
--- `init` stands before every other transaction
+-- `init` comes before every other transaction
 pub init_pair : (h : History) (v : ℕ) → 0 < v → v < count h → IsSessionPair h 0 v
 init_pair h v some below =
     and_from _ _ (and_from _ _ (lt-ltb 0 (count h) (omega arith)) (lt-ltb v (count h) below)) (or_left _ _ (and_from _ _ refl (lt-ltb 0 v some)))
@@ -74,7 +74,7 @@ no_runs h = record {
   last = λ v e. absurd (omega (arith, e));
 }
 
--- one run more, whose numbers are known to be pairs with the last
+-- one more run, whose numbers are known to be pairs with the last
 module _ (e : ℕ) (h : History) (old begin : ℕ) (begins : List ℕ) (was : AreRunsTo e h old begins) (within : begin ≤ e)
     (onward : (v : ℕ) → e ≡ v + 1 → (begin ≡ e) ⊎ (begin ≡ get_or begins v 0)) (pairs : (u : ℕ) → IsInRun begin e u → IsSessionPair h u e)
     (all : (u : ℕ) → IsSessionPair h u e → IsInRun begin e u) where
@@ -128,7 +128,7 @@ module _ (e : ℕ) (h : History) (old begin : ℕ) (begins : List ℕ) (was : Ar
           (subst (λ (z : ℕ). IsInRun (get_or (begins ++ begin ∷ []) v 0) z u) same p)))
       pair u v l p (inr apart) = was.pairs u v (omega arith) (subst (λ (z : ℕ). IsInRun z v u) (before v (omega arith)) p)
 
--- what has no session pair with `init` alone comes after another
+-- no session pair ends at `init`
 no_pair : (h : History) (u : ℕ) → IsSessionPair h u 0 → ⊥
 no_pair h u p = go (pair_parts h u 0 p)
   where
@@ -136,14 +136,14 @@ no_pair h u p = go (pair_parts h u 0 p)
     go (inl first) = omega (arith, first.1)
     go (inr second) = omega (arith, second.1)
 
--- who stands right before e, where somebody does
+-- the last that comes before e in session order, where there is one
 abbrev pub IsLastBefore : History → ℕ → ℕ → Type 0
 IsLastBefore h e last = (u : ℕ) → IsSessionPair h u e → (u ≡ last) ⊎ IsSessionPair h u last
 
 pub last_at : (h : History) (e last other : ℕ) → last ≡ other → IsLastBefore h e last → IsLastBefore h e other
 last_at h e last other same is = subst (λ (z : ℕ). IsLastBefore h e z) same is
 
--- a run that begins anew, where `init` alone stands before
+-- a run that begins anew, where only `init` comes before
 pub run_begun : (e : ℕ) (h : History) (old : ℕ) (begins : List ℕ) → e < count h → (0 < e → IsLastBefore h e 0) → AreRunsTo e h old begins
     → AreRunsTo (e + 1) h e (begins ++ e ∷ [])
 run_begun e h old begins below last was = one_more_run e h old e begins was (omega arith) (λ v is. inl refl) pairs all
@@ -202,7 +202,7 @@ pub record IsCarried (begins row : List ℕ) (low e opening least : ℕ) : Type 
       ⊎ ((u : ℕ) × IsInRun (get_or begins e 0) e u × (low ≤ u) × (get_or row (u - low) 0 ≡ least))
   pub lower : e < low + length row → get_or begins e 0 < e → (u : ℕ) → IsInRun (get_or begins e 0) e u → low ≤ u → least ≤ get_or row (u - low) 0
 
--- so where e is looked at
+-- the same where e is looked at
 pub record IsRunLeast (begins row : List ℕ) (low e least : ℕ) : Type 0 where
   pub from : (least ≡ unlinked) ⊎ ((u : ℕ) × IsInRun (get_or begins e 0) e u × (low ≤ u) × (get_or row (u - low) 0 ≡ least))
   pub lower : (u : ℕ) → IsInRun (get_or begins e 0) e u → low ≤ u → least ≤ get_or row (u - low) 0
@@ -238,8 +238,7 @@ module _ (begins row : List ℕ) (low e : ℕ) (runs : HasRuns begins) (long : l
       go (inl l) = l
       go (inr g) = absurd (on (omega (arith, runs.within e (omega (arith, long)))))
 
-  -- the number of e is looked at
-  -- the run is begun anew, or goes on
+  -- the number of e is looked at: the run is begun anew, or goes on
   run_here : (opening least carried : ℕ) → IsCarried begins row low e opening least → (get_or begins e 0 ≡ e → carried ≡ opening)
       → ((get_or begins e 0 ≡ e → ⊥) → carried ≡ least) → IsRunLeast begins row low e carried
   run_here opening least carried was anew on = go (cases_eq (get_or begins e 0) e)
@@ -296,7 +295,7 @@ module _ (begins row : List ℕ) (low e : ℕ) (runs : HasRuns begins) (long : l
       lower u run l (inr same) goes low_u (inr apart) =
           omega (arith, is, here.lower u (omega (arith, run.0), subst (λ (z : ℕ). (u ≡ 0) ⊎ (z ≤ u)) same run.1) low_u)
 
-  -- the least of the run tells whether a pair of it is too long
+  -- the least of the run decides whether a pair of it is too long
   run_long : (least number : ℕ) → number ≡ get_or row (e - low) 0 → number ≤ unlinked → IsRunLeast begins row low e least → least + 1 < number
       → IsLongRun (get_or begins e 0) row low e
   run_long least number is fits here long_run = go here.from

@@ -67,7 +67,7 @@ module _ (h : History) (k : CycleClaim) (good : CertifiesCycle h k) where
       let pair = subst (λ (z : ℕ). IsCausalPair h z (step_to s)) w.0.1.0 (step_pair h s w.0.1.1) in
       omega (arith, near_pair b (step_to s) pair, near_rest k.level refl b (step_to s) c s walk (pair_below h b (step_to s) pair).0 w.0.1.2 w.1)
 
-  -- one link takes no more than it costs
+  -- one link has at most its cost
   far_link : (l : Link) → IsLink (judged h k.level) l → lowest k.version (link_from l) ≤ link_to l
       → far_entry k.version k.far (link_from l) (link_to l) ≤ link_cost l
   far_link (link.Session a b) p low = not_above _ _ (λ m. good.far_links (a, b) (low, inl (inl p, m)))

@@ -1,5 +1,5 @@
--- A certified order is a commit order: the clocks bound from above how much of each session
--- reaches a transaction, so each reason is one that the rule on the axiom asks about.
+-- A certified order is a commit order. The clocks bound from above how much of each session reaches a transaction, so each reason is one
+-- that the rule on the axiom checks.
 use Rattle.std.proofs.Common.{◌≡◌, ◌<◌, ◌≤◌, ℕ, ◌⊎◌, inl, inr, List, [], ◌∷◌, length, arith, refl, subst}
 use Rattle.std.proofs.lemmas.Bool.{cases_eq, cases_lt}
 use Rattle.tcc_reads.specs.History.{History, count, owner}

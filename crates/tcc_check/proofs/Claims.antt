@@ -37,7 +37,7 @@ certified_by h (claim.Cycle k) all = record {
   returns = all.1.1.1.1.1.1.0;
 }
 
--- what the rules answer is the verdict
+-- the result of the rules is the verdict
 pub verdict_of : (h : History) (k : Certificate) (answer : Verdict Rule) → IsVerdictOf (rules_of h k) answer → IsVerdict h k answer
 verdict_of h k verdict.Accepted said = certified_by h k said
 verdict_of h k (verdict.Rejected rule at) said = said

@@ -6,7 +6,7 @@ use Rattle.tcc_cert.specs.declared.part.Part.{Part}
 use Rattle.tcc_cert.specs.declared.part.Part.TheVariants as part
 use Rattle.tcc_check.proofs.ComingFacts.{first-fault, first-line, first-parts, next-row, next-no-row, no-rows}
 
--- behind these clocks come the others
+-- after these clocks come the others
 pub record AreClocksBehind (clocks : List (List ℕ)) (ahead rest : Parts) : Type 0 where
   pub line : rest.line ≡ ahead.line
   pub fault : rest.fault ≡ ahead.fault
@@ -30,7 +30,7 @@ clocks-more clocks row ahead now rest behind first = record {
       (next.0, old.1 ∙ ap (λ t. clocks ++ t) next.1 ∙ sym (append_assoc clocks (row ∷ []) next.0), next.2);
 }
 
--- another part is none of those that such a text has
+-- another part is not one of those that such a text has
 clocks-other : (clocks : List (List ℕ)) (given : Part) (ahead now rest : Parts) → ((row : List ℕ) → given ≡ part.Clocks row → ⊥)
     → (given ≡ part.End → ⊥) → AreClocksBehind clocks ahead now → IsFirst given now rest → AreClocksBehind clocks ahead rest
 clocks-other clocks given ahead now rest other going behind first = record {

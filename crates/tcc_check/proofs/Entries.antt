@@ -5,7 +5,7 @@ use Rattle.std.proofs.lemmas.Bool.{cases_lt}
 use Rattle.std.proofs.lemmas.List.{get_or_past, get_or_read}
 use Rattle.tcc_cert.specs.Tables.{row_of, entry, HasSize}
 
--- past the last column stands nothing
+-- there is nothing past the last column
 pub entry_past : (rows columns : ℕ) (table : List (List ℕ)) (a column : ℕ) → HasSize rows columns table → columns ≤ column → entry table a column ≡ 0
 entry_past rows columns table a column size past = go (cases_lt a (length table))
   where
@@ -17,7 +17,7 @@ entry_past rows columns table a column size past = go (cases_lt a (length table)
 pub entry_read : (table : List (List ℕ)) (a b : ℕ) (row : List ℕ) → a < length table → row ≡ get_or table a row → get_or row b 0 ≡ entry table a b
 entry_read table a b row inside is = ap (λ r. get_or r b 0) (get_or_read table a row inside is [])
 
--- no number of a capped row is above the cap, nor what stands past its end
+-- no number of a capped row is above the cap, nor is what is read past its end
 pub capped_at : (row : List ℕ) (most : ℕ) → All (λ value. value ≤ most) row → (k : ℕ) → get_or row k 0 ≤ most
 capped_at row most capped k = go (cases_lt k (length row))
   where

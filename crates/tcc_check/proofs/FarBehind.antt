@@ -97,7 +97,7 @@ module _ (version : Version) (least : ℕ) (n : ℕ) (P : List (List ℕ) → �
         go (inl same) = subst P (sym same) here
         go (inr apart) = below s (omega (arith, l, apart))
 
-    -- one row more, of the right size and capped
+    -- one more row, of the right size and capped
     pub far-rows-more : (more : FarFaults) → length row ≡ n - lowest version i → All (λ value. value ≤ least) row → P far (i + 1) more
         → AreFarRows version least n P far (i + 1) more rest
     far-rows-more more long capped found = record {

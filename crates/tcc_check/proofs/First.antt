@@ -9,7 +9,7 @@ use Rattle.tcc_check.specs.private.Searches.{HoldsBelow}
 abbrev pub HoldsAbove : ℕ → (ℕ × ℕ → Type 0) → Type 0
 HoldsAbove i broken = (a b : ℕ) → a < i → broken (a, b) → ⊥
 
--- nor for one number more
+-- nor for one more number
 pub holds_below_more : (n m : ℕ) (broken : ℕ → Type 0) → m ≡ n + 1 → HoldsBelow n broken → (broken n → ⊥) → HoldsBelow m broken
 holds_below_more n m broken is before here a l p = go (cases_eq a n)
   where
@@ -17,7 +17,7 @@ holds_below_more n m broken is before here a l p = go (cases_eq a n)
     go (inl same) = here (subst broken same p)
     go (inr apart) = before a (omega arith) p
 
--- nor in one row more
+-- nor in one more row
 pub holds_more : (i : ℕ) (broken : ℕ × ℕ → Type 0) → HoldsAbove i broken → ((b : ℕ) → broken (i, b) → ⊥) → HoldsAbove (i + 1) broken
 holds_more i broken before row a b l p = go (cases_eq a i)
   where

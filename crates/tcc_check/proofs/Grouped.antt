@@ -31,7 +31,7 @@ empty-group [] weight ends = refl
 empty-group (first ∷ groups) weight ends =
     ap (λ (rest : List (ℕ × ℕ)). weighed first.0 (take first.1 ends) ++ rest) (empty-group groups weight (drop first.1 ends))
 
--- one end more in the last group
+-- one more end in the last group
 pub more-in-group : (groups : List (ℕ × ℕ)) (weight n : ℕ) (ends : List ℕ) (end : ℕ) → total groups + n ≡ length ends
     → links_by (groups ++ (weight, n + 1) ∷ []) (ends ++ end ∷ []) ≡ links_by (groups ++ (weight, n) ∷ []) ends ++ (end, weight) ∷ []
 more-in-group [] weight n ends end all =
@@ -135,7 +135,7 @@ total-within groups zero = omega arith
 total-within [] (suc i) = omega arith
 total-within (first ∷ groups) (suc i) = omega (arith, total-within groups i)
 
--- what stands in a group
+-- what is in a group
 pub in-group : (groups : List (ℕ × ℕ)) (ends : List ℕ) (i k : ℕ) → total groups ≡ length ends → i < length groups → k < (get_or groups i (0, 0)).1
     → get_or (links_by groups ends) (total (take i groups) + k) (0, 0) ≡ (get_or ends (total (take i groups) + k) 0, (get_or groups i (0, 0)).0)
 in-group [] ends i k all inside here = absurd (omega (arith, inside))
@@ -191,7 +191,7 @@ module _ (groups : List (ℕ × ℕ)) (ends : List ℕ) (are : AreGroupsOf group
       ap (λ k. (get_or (links_by groups ends) k (0, 0)).1) (omega arith)
       ∙ ap (λ (z : ℕ × ℕ). z.1) (in-group groups ends i 0 are.all inside (are.some i (0, 0) inside))
 
-  -- behind the last group all links were gone through
+  -- after the last group all links were gone through
   pub groups_end : (i : ℕ) → length groups ≤ i → begin groups i ≡ length (links_by groups ends)
   groups_end i all = ap total (take_all i groups all) ∙ are.all ∙ sym (length-links groups ends are.all)
 
@@ -200,7 +200,7 @@ module _ (groups : List (ℕ × ℕ)) (ends : List ℕ) (are : AreGroupsOf group
     pub group_fits : (group groups i).1 ≤ length left
     group_fits = omega (arith, group_inside i inside, ap length is, length-drop (begin groups i) ends)
 
-    -- and what is left behind it those of the next
+    -- and what is left after it those of the next
     pub group_left : (rest : List ℕ) → rest ≡ drop (group groups i).1 left → rest ≡ drop (begin groups (i + 1)) ends
     group_left rest behind =
         behind ∙ ap (drop (group groups i).1) is ∙ drop-drop (group groups i).1 (begin groups i) ends

@@ -36,19 +36,19 @@ pub stream-fault : (bytes : List ℕ) (fault : StreamFault) → FailsAs (parts_r
 stream-fault bytes (Text fault) fails = (ends-read bytes fault fails.0, fails.1)
 stream-fault bytes NoMemory fails = tt
 
--- what is answered in the place of a fault is that fault
+-- what is returned in place of a fault is that fault
 pub faulted : {X : Type 0} (Is : Result X StreamFault → Type 0) (fault : StreamFault) (o : Result X StreamFault) → IsErrAnd o (λ why. why ≡ fault)
     → Is (Err fault) → Is o
 faulted Is fault (Ok x) fails is = absurd fails
 faulted Is fault (Err why) fails is = subst (λ w. Is (Err w)) (sym fails) is
 
--- how the parts behind the first end is how the whole text does
+-- the parts after the first one end as the whole text does
 pub fault-behind : (bytes : List ℕ) (given : Part) (rest : Parts) (fault : StreamFault) → parts_read bytes ≡ after_part given rest → FailsAs rest fault
     → IsStreamFault bytes fault
 fault-behind bytes given rest fault is fails =
     stream-fault bytes fault (fails-back (parts_read bytes) rest fault (sym (ap (λ p. p.line) is)) (sym (ap (λ p. p.fault) is)) fails)
 
--- what is said of a claim and the parts behind it is said of the certificate
+-- what holds of a claim and the parts after it holds of the certificate
 judged-behind : (h : History) (bytes : List ℕ) (given : Part) (rest : Parts) (said : Judgement → Type 0) (o : Result Judgement StreamFault)
     → parts_read bytes ≡ after_part given rest
     → ((c : Certificate) (judgement : Judgement) → given ∷ rest.parts ≡ parts_of c → said judgement
@@ -69,7 +69,7 @@ sized-answer h k rest (Some answer) true judged end =
 sized-answer h k rest (Some answer) false judged end = inl (refl, (refl, λ right. false≢true (end.1 (judged.more right))))
 sized-answer h k rest None at_once wrong end = inl (refl, (refl, wrong))
 
--- all rules say so of a claim that a list is a commit order, with the clocks that come
+-- the verdict of all rules for a claim that a list is a commit order, with the clocks that come
 record IsOrderJudged (h : History) (head : OrderHead) (ahead : Parts) (judgement : Judgement) : Type 0 where
   same : judgement.claim ≡ claim.Order
   answer : (clocks : List (List ℕ)) → ahead.parts ≡ map part.Clocks clocks → IsVerdictOf (order_rules h (with_clocks head clocks)) judgement.verdict
@@ -101,7 +101,7 @@ cycle-judged h (certificate.Cycle k) head rest judgement is said =
           (subst (λ (o : CycleHead). IsVerdictOf (cycle_rules h (with_tables o k.links k.near k.far)) judgement.verdict) same answer),
     )
 
--- what is said of a claim and the parts behind it is said of the text
+-- what holds of a claim and the parts after it holds of the text
 pub order-behind : (h : History) (bytes : List ℕ) (head : OrderHead) (rest : Parts) (k : OrderClaim) (verdict : Verdict Rule)
     → parts_read bytes ≡ after_part (part.Order head) rest → rest.fault ≡ None
     → ((clocks : List (List ℕ)) → rest.parts ≡ map part.Clocks clocks → k ≡ with_clocks head clocks) → IsVerdictOf (order_rules h k) verdict

@@ -12,7 +12,7 @@ use Rattle.tcc_cert.specs.declared.part.Part.TheVariants as part
 use Rattle.tcc_rules.specs.declared.links.LinksSeen.{LinksSeen}
 use Rattle.tcc_check.proofs.ComingFacts.{first-fault, first-line, first-parts}
 
--- so many links come, and then these parts
+-- this many links come, and then these parts
 abbrev AreComing : ℕ → Parts → List Link → List Part → Type 0
 AreComing n ahead links tables = (length links ≡ n) × (ahead.parts ≡ map part.Link links ++ tables)
 
@@ -32,7 +32,7 @@ none-left : (todo : List Link) (tables : List Part) → 0 < length todo → [] �
 none-left [] tables some is = omega (arith, some)
 none-left (one ∷ later) tables some is = cc
 
--- behind the first i links come the others
+-- after the first i links come the others
 pub record AreLinksBehind (n : ℕ) (below : Link → Type 0) (P : List Link → ℕ → LinksSeen → Type 0) (i : ℕ) (seen : LinksSeen) (links : List Link)
     (ahead rest : Parts) : Type 0 where
   pub line : rest.line ≡ ahead.line

@@ -22,7 +22,7 @@ use Rattle.tcc_check.specs.private.WeightsFrom.{AreAllEnds, AreEnds, AreEndsTo, 
 use Rattle.tcc_check.specs.private.WeightsFrom.{ContradictsBy, InitContradictsBy, MarkWeighs, ReadWeighs, SourceWeighs}
 use Rattle.tcc_check.proofs.Lowering.{lowered_none, lowered_as, lowered_then, lowered_one}
 
--- ---- lists beside one another
+-- ---- two lists, item by item
 
 module _ {A B : Type 0} (ks : List A) (vs : List B) (long : length ks ≡ length vs) where
   pub zip-at : (k : ℕ) (a : A) (b : B) → k < length ks → get_or ks k a ≡ a → get_or vs k b ≡ b → Contains (zip ks vs) (a, b)
@@ -39,7 +39,7 @@ module _ {A B : Type 0} (ks : List A) (vs : List B) (long : length ks ≡ length
       let both : (get_or ks k a, get_or vs k b) ≡ (a, b) = sym (get_or-zip ks vs k (a, b) inside (omega (arith, inside, long))) ∙ e in
       (k, inside, ap (λ (z : A × B). z.0) both, ap (λ (z : A × B). z.1) both)
 
--- what is known of each two that stand beside one another is known of each
+-- what is known of the items at each index of two lists is known of each item
 pub firsts-by : {B : Type 0} (x : B) (P : ℕ → Type 0) (ks : List ℕ) (vs : List B) → length ks ≡ length vs
     → ((k : ℕ) (v : B) → Contains (zip ks vs) (k, v) → P k) → All P ks
 firsts-by x P ks vs long each k d l =
@@ -76,9 +76,9 @@ module _ (h : History) (a : ℕ) (readers key_indices : List ℕ) (are : AreRead
   pub readers-below : All (λ c. c < count h) readers
   readers-below k d l = (reads-there (get_or readers k d) (k, l, get_or_default readers k _ d l)).1.1
 
--- ---- one number more
+-- ---- one more number
 
--- what the first lower, one number more
+-- what the first ones lower, with one more number
 module _ (P Q : ℕ → ℕ → Type 0) (old new : List ℕ) (lowered : IsLowered P old new) where
   pub one-lowered : (a n : ℕ) → a < length new → ((v w : ℕ) → P v w ⊎ ((v ≡ a) × (w ≡ n)) → Q v w) → ((v w : ℕ) → Q v w → P v w ⊎ ((v ≡ a) × (w ≡ n)))
       → IsLowered Q old (set new a (min (get_or new a 0) n))
@@ -285,7 +285,7 @@ module _ (weights : List ℕ) (least : ℕ) where
     sorted = by;
   }
 
-  -- of the least weights the light ones are the links that take less
+  -- of the least weights the light ones are the links that cost less
   pub ends-light : (n : ℕ) (weighs : ℕ → ℕ → Type 0) (ends : List (ℕ × ℕ)) → length weights ≡ n → least < 4294967296 → IsLeastRow weighs weights
       → AreLightEnds weights least ends → AreEnds weighs n least ends
   ends-light n weighs ends long fits row light = record {

@@ -13,7 +13,7 @@ use Rattle.tcc_check.specs.private.Coming.{IsNearRight}
 use Rattle.tcc_check.specs.declared.near_rows.NearRows.{NearRows}
 use Rattle.tcc_check.proofs.ComingFacts.{first-fault, first-line, first-parts}
 
--- behind these rows come the others
+-- after these rows come the others
 pub record IsNearBehind (rows : List (List ℕ)) (n : ℕ) (ahead rest : Parts) : Type 0 where
   pub line : rest.line ≡ ahead.line
   pub fault : rest.fault ≡ ahead.fault

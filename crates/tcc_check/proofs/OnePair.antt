@@ -18,12 +18,12 @@ use Rattle.tcc_check.proofs.KeyOrder.{one_index}
 use Rattle.tcc_check.proofs.Sessions.{by_keys, initial_before, read_listed, strictly_before}
 use Rattle.tcc_txn.proofs.Lists.{from_map}
 
--- ---- whom each key is read from
+-- ---- the source of each key that is read
 
 abbrev pub IsKey : History → ℕ × ℕ → Type 0
 IsKey h read = read.0 < length (keys h)
 
--- the reads of a transaction stand at their keys' positions
+-- the reads of a transaction are at their keys' positions
 pub read_there : (h : History) (a c k : ℕ) (reads : List (ℕ × ℕ)) → map (λ (read : ℕ × ℕ). (key_at h read.0, read.1)) reads ≡ (entry_at h c).reads
     → All (IsKey h) reads → k < length (keys h) → IsReadsPair h a c (key_at h k)
     → (j : ℕ) × (j < length reads) × (get_or reads j (0, 0) ≡ (k, a))
@@ -109,7 +109,7 @@ writer_stands_by h b ks positions sources are within each k inside named =
       ap (λ (z : ℕ). get_or sources z 0) (get_or_default ks w.1.0 0 w.0 w.1.1 ∙ w.1.2 ∙ one),
     )
 
--- so for all sources
+-- the same for all sources
 pub sources_stand_by : (h : History) (c : ℕ) (reads : List (ℕ × ℕ)) (positions sources : List ℕ)
     → map (λ (read : ℕ × ℕ). (key_at h read.0, read.1)) reads ≡ (entry_at h c).reads → All (IsKey h) reads → AreSourcePositions h positions c sources
     → ((j : ℕ) → j < length reads → DoesWriterStand h positions sources (get_or reads j (0, 0)).1) → DoSourcesStand h positions c
@@ -141,7 +141,7 @@ sources_stand_by h c reads positions sources are within low each b y a x from re
         let over = low key.0 a key.1 (subst (λ (z : List ℕ). IsReadsPair h a c z) (sym key.2) reading) in
         omega (arith, under, over)
 
--- so for all reads
+-- the same for all reads
 pub sessions_stand_by : (h : History) (c : ℕ) (reads : List (ℕ × ℕ)) (positions : List ℕ)
     → map (λ (read : ℕ × ℕ). (key_at h read.0, read.1)) reads ≡ (entry_at h c).reads
     → ((j : ℕ) (d : ℕ × ℕ) → j < length reads → DoesSessionStand h positions (writers h (key_at h (get_or reads j d).0)) (get_or reads j d).1 c)

@@ -1,4 +1,4 @@
--- What the first links of a list tell of a row.
+-- What the first links of a list say about a row.
 use Rattle.std.proofs.Common.{◌≡◌, ◌<◌, ◌≤◌, ◌+◌, ◌-◌, ℕ, ◌⊎◌, inl, inr, List, length, get_or, take, drop, Option, None, Some, arith, sym, ap, subst, ◌∙◌}
 use Rattle.std.specs.Prelude.{All}
 use Rattle.std.proofs.lemmas.Bool.{cases_eq, cases_lt}
@@ -11,7 +11,7 @@ use Rattle.tcc_check.proofs.Entries.{capped_at}
 use Rattle.tcc_check.proofs.Found.{found_as, found_either, found_here}
 use Rattle.tcc_check.proofs.Grouped.{at_run, begin, group, in_run, run_long}
 
--- one of the first i links takes less
+-- one of the first i links costs less
 abbrev pub SeenOver : ℕ → List (ℕ × ℕ) → List ℕ → ℕ → ℕ → ℕ → Type 0
 SeenOver i ends row low before v =
     (low ≤ v) × (k : ℕ) × (k < i) × ((get_or ends k (0, 0)).0 ≡ v) × (before + 1 + (get_or ends k (0, 0)).1 < get_or row (v - low) 0)
@@ -45,7 +45,7 @@ module _ (ends : List (ℕ × ℕ)) (row : List ℕ) (low before : ℕ) where
       found_as n (SeenOver i ends row low before) (IsOvershot ends row low before) (λ v p. to_over i v (omega (arith, all)) p)
       (λ v p. subst (λ (z : ℕ). SeenOver z ends row low before v) (sym all) (from_over v p)) found
 
-  -- behind a link that takes as much as anything the row has, none takes less
+  -- after a link that costs as much as anything the row has, none costs less
   pub rest_over : (i most : ℕ) (found : Option ℕ) → i < length ends → AreByWeight ends → All (λ value. value ≤ most) row
       → most ≤ before + 1 + (get_or ends i (0, 0)).1 → IsFoundBelow n (SeenOver i ends row low before) found
       → IsFoundBelow n (IsOvershot ends row low before) found
@@ -60,7 +60,7 @@ module _ (ends : List (ℕ × ℕ)) (row : List ℕ) (low before : ℕ) where
           go (inl less) = (low_v, k, less, is, more)
           go (inr later) = absurd (omega (arith, sorted i k (0, 0) later l, more, capped_at row most capped (v - low), enough))
 
--- one of the links from the first starts takes less
+-- one of the links from the first starts costs less
 abbrev pub SeenOther : ℕ → List (List (ℕ × ℕ)) → List ℕ → ℕ → ℕ → Type 0
 SeenOther i others row low v =
     (u : ℕ) × (low ≤ u) × (u < low + i) × IsOvershot (ends_of others u) row low (get_or row (u - low) 0) v
@@ -172,7 +172,7 @@ module _ (ends row : List ℕ) (low cost : ℕ) where
       back : (v : ℕ) → IsOvershotAt ends row low cost v → SeenAt i ends row low cost v
       back v (low_v, (k, l, is), more) = (low_v, k, omega (arith, l, all), get_or_default ends k 0 v l ∙ is, more)
 
--- ---- one group more
+-- ---- one more group
 
 module _ (groups : List (ℕ × ℕ)) (ends : List ℕ) (are : AreGroupsOf groups ends) (row : List ℕ) (low before i : ℕ) (run : List ℕ)
     (inside : i < length groups) (is : run ≡ take (group groups i).1 (drop (begin groups i) ends)) where

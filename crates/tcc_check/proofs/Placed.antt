@@ -8,7 +8,7 @@ use Rattle.std.proofs.lemmas.List.{get_or_default, get_or-set_same, get_or-set_o
 use Rattle.tcc_graph.specs.Orders.{IsNumbering}
 use Rattle.tcc_check.specs.private.Positions.{ArePositions}
 
--- stands for a number that was not seen
+-- the position of a number that was not seen
 abbrev pub unplaced : ℕ
 unplaced = 4294967295
 

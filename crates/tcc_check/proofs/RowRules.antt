@@ -1,4 +1,4 @@
--- What was found in a row, in the words of the rules.
+-- What was found in a row, stated as the rules state it.
 use Rattle.std.proofs.Common.{◌≡◌, ◌<◌, ◌≤◌, ◌+◌, ◌-◌, ℕ, ◌⊎◌, inl, inr, List, length, get_or, Option, None, Some, arith, refl, sym, ap, subst, ◌∙◌}
 use Rattle.std.specs.Prelude.{All, MatchOption}
 use Rattle.tcc_reads.specs.History.{History, count}
@@ -16,7 +16,7 @@ use Rattle.tcc_check.specs.private.Coming.{IsFoundBefore, first_of}
 use Rattle.tcc_check.proofs.Entries.{capped_at}
 use Rattle.tcc_check.proofs.First.{first_in_row, holds_more}
 
--- the first in a row, in the words of the table
+-- the first in a row, stated as for the table
 abbrev pub InRow : (ℕ × ℕ → Type 0) → ℕ → Option ℕ → Type 0
 InRow broken s end = MatchOption end ((b : ℕ) → broken (s, b) → ⊥) (λ b. broken (s, b) × ((c : ℕ) → c < b → broken (s, c) → ⊥))
 
@@ -39,7 +39,7 @@ row-by : (n s : ℕ) (P : ℕ → Type 0) (broken : ℕ × ℕ → Type 0) (end 
 row-by n s P broken None to back none = λ b p. let q = to b p in none b q.0 q.1
 row-by n s P broken (Some b) to back first = (back b first.below first.here, λ c l p. first.first c l (to c p).1)
 
--- ---- what links and steps take, whatever the weights
+-- ---- what links and steps cost, whatever the weights
 
 module _ (h : History) (weighs : ℕ → ℕ → ℕ → Type 0) (low least : ℕ) (row : List ℕ) (capped : All (λ value. value ≤ least) row) where
   abbrev Single : ℕ → ℕ → Type 0
@@ -133,7 +133,7 @@ near-step-none h near s = λ b p. not p.0
     not : level.Atomic ≡ level.Causal → ⊥
     not e = cc
 
--- so at the level that is asked
+-- the same at the level that is asked
 pub at-level : (h : History) (near : List (List ℕ)) (s : ℕ) (asked known : Level) (end : Option ℕ) → asked ≡ known
     → InRow (BreaksNearStep h known near) s end → InRow (BreaksNearStep h asked near) s end
 at-level h near s asked known end is row = subst (λ (l : Level). InRow (BreaksNearStep h l near) s end) (sym is) row

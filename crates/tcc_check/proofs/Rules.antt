@@ -1,4 +1,4 @@
--- What was found in all rows of a table tells the first broken rule.
+-- What was found in all rows of a table gives the first broken rule.
 use Rattle.std.proofs.Common.{◌<◌, ℕ, inl, inr, List, Option, None, Some, refl}
 use Rattle.tcc_reads.specs.History.{History, count}
 use Rattle.tcc_graph.specs.declared.level.Level.{Level}

@@ -110,7 +110,7 @@ module _ (h : History) (session number : ℕ) where
               omega (arith, rise, here),
         )
 
--- ---- the last alone is asked
+-- ---- only the last is checked
 
 module _ (h : History) (ordered : IsBySession h.entries) (positions writers : List ℕ) (session number source : ℕ) (all : All (λ b. b < count h) writers) where
   reached : (b : ℕ) → b < count h → 0 < b → owner h b ≡ session → place h b ≤ number → is_within h session number b ≡ true
@@ -150,7 +150,7 @@ module _ (h : History) (ordered : IsBySession h.entries) (positions writers : Li
 -- ---- what the last writers of all sessions say of a read
 
 module _ (h : History) (positions : List ℕ) (a b : ℕ) where
-  -- no two stand at one position
+  -- no two are at one position
   pub strictly_before : AreApart positions → length positions ≡ count h → b ≢ a → b < count h → a < count h → get_or positions b 0 ≤ get_or positions a 0
       → get_or positions b 0 < get_or positions a 0
   strictly_before apart long other below source upto = go (cases_lt (get_or positions b 0) (get_or positions a 0))
@@ -159,7 +159,7 @@ module _ (h : History) (positions : List ℕ) (a b : ℕ) where
       go (inl less) = less
       go (inr more) = absurd (other (apart b a (omega (arith, below, long)) (omega (arith, source, long)) (omega (arith, upto, more))))
 
-  -- `init` stands before all others
+  -- `init` comes before all others
   pub initial_before : KeepsSessions h positions → b ≡ 0 → b ≢ a → b < count h → a < count h → get_or positions b 0 < get_or positions a 0
   initial_before kept zeroth other below source = kept.kept b a (initial_pair h b a zeroth below (some_source (cases_lt 0 a)) source)
     where
@@ -224,7 +224,7 @@ listed_read h a c x from to there = (
       (in_filter (λ (read : List ℕ × ℕ). read.1 == a) (entry_at h c).reads (x, a) there (eq-eqb a a refl)),
 )
 
--- one item more
+-- one more item
 pub first_more : {X : Type 0} (P : X → Type 0) (xs : List X) (i : ℕ) (x : X) → i < length xs → x ≡ get_or xs i x
     → ((k : ℕ) (d : X) → k < i → P (get_or xs k d)) → P x → (k : ℕ) (d : X) → k < i + 1 → P (get_or xs k d)
 first_more P xs i x inside is before here k d below = go (cases_eq k i)
@@ -233,12 +233,12 @@ first_more P xs i x inside is before here k d below = go (cases_eq k i)
     go (inl same) = subst (λ m. P (get_or xs m d)) (sym same) (subst P (is ∙ get_or_default xs i x d inside) here)
     go (inr apart) = before k d (omega arith)
 
--- one item more, the next by its number
+-- one more item, the next by its number
 pub next_more : {X : Type 0} (P : X → Type 0) (xs : List X) (i : ℕ) (e : X) → i < length xs
     → ((k : ℕ) (d : X) → k < i → P (get_or xs k d)) → P (get_or xs i e) → (k : ℕ) (d : X) → k < i + 1 → P (get_or xs k d)
 next_more P xs i e inside = first_more P xs i (get_or xs i e) inside (get_or_default xs i e (get_or xs i e) inside)
 
--- so for all of them, by the indices of their keys
+-- the same for all of them, by the indices of their keys
 pub by_keys : (h : History) (c : ℕ) (P : List ℕ → ℕ → Type 0) (reads : List (ℕ × ℕ))
     → map (λ (read : ℕ × ℕ). (key_at h read.0, read.1)) reads ≡ (entry_at h c).reads
     → ((k : ℕ) (d : ℕ × ℕ) → k < length reads → P (key_at h (get_or reads k d).0) (get_or reads k d).1) → (x : List ℕ) (a : ℕ) → IsReadsPair h a c x → P x a

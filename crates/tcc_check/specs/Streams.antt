@@ -1,4 +1,4 @@
--- What is answered of a certificate whose text a reader gives.
+-- The result for a certificate whose text a reader gives.
 use Rattle.std.specs.Prelude.{ℕ, ◌≡◌, ◌≢◌, List, Result, Ok, Err}
 use Rattle.tcc_reads.specs.History.{History}
 use Rattle.tcc_cert.specs.Outcomes.{IsReading}
@@ -15,7 +15,7 @@ use Rattle.tcc_rules.specs.declared.verdict.Rule.{Rule}
 use Rattle.tcc_rules.specs.declared.verdict.Verdict.{Verdict}
 use Rattle.tcc_check.specs.Verdicts.{IsVerdict}
 
--- what a certificate claims, without all by which the claim is judged
+-- what a certificate claims, without what the claim is judged by
 abbrev pub claim_of : Certificate → Claim
 claim_of (certificate.Order k) = claim.Order
 claim_of (certificate.Cycle k) = claim.Cycle k.least

@@ -1,4 +1,4 @@
--- What is answered of a certificate: it is accepted, or the first rule that is broken and where it is first.
+-- The verdict on a certificate: it is accepted, or the first rule that is broken and where it is broken first.
 use Rattle.std.specs.Prelude.{ℕ, ◌≡◌, List, [], ◌∷◌}
 use Rattle.tcc_reads.specs.History.{History}
 use Rattle.tcc_cert.specs.CycleRules.{HasRightSizes}

@@ -20,7 +20,7 @@ pub(crate) struct Pairs {
     pub(crate) readings: Vec<Option<Groups>>,
 }
 
-/// The adjacency lists of a history, where costs below `least` are asked of.
+/// The adjacency lists of a history, for costs below `least`.
 pub(crate) fn pairs_of(alloc: Global, graph: &LargeGraph, least: u32) -> Result<Pairs, NoMemory>
     requires { count graph.now ≤ MAX_COUNT }
     ensures { IfOk result (ArePairs graph.now least) }

@@ -1,4 +1,4 @@
-//! The judgement of a certificate that is there as a value.
+//! The judgement of a certificate that is held as a value.
 ghost use Rattle.std.specs.Prelude.{IfOk};
 ghost use Rattle.tcc_check.specs.Verdicts.{IsVerdict};
 
@@ -10,9 +10,9 @@ use tcc_graph::Graph;
 use tcc_rules::Verdict;
 use tcc_txn::NoMemory;
 
-/// Accepts the certificate exactly where it keeps all rules for its version and its level; otherwise names the first
-/// broken one and where. It is for certificates that are there as values, as `tcc_cert::read` and an answer give them; of
-/// a text `check_stream` holds less.
+/// Accepts the certificate exactly where it keeps all rules for its version and its level. Otherwise names the first broken
+/// one and where. It is for certificates that are held as values, as `tcc_cert::read` and an answer return them. For a
+/// text, `check_stream` holds less in memory.
 ///
 /// ```rust
 /// let mut text = Vec::new(alloc);

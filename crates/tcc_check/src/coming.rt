@@ -44,7 +44,7 @@ fn skip_rest<R: Read>(alloc: Global, parts: &mut CertReader<R>) -> Result<(), St
     }
 }
 
-/// Reads on to the end, and says whether that came at once.
+/// Reads on to the end, and returns whether no other part came before it.
 pub(crate) fn ends<R: Read>(alloc: Global, parts: &mut CertReader<R>) -> Result<bool, StreamFault>
     ensures { (ahead : Parts) → IsAhead R.remaining parts.old ahead → Finishes ahead (λ at_once. IsTrue at_once ↔ (ahead.parts ≡ [])) result }
 {

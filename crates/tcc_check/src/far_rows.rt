@@ -48,7 +48,7 @@ fn short_return(row: &[u32], low: u32, start: u32, least: u32) -> Option<u32>
     }
 }
 
-/// What is found with one row more.
+/// What is found with one more row.
 fn with_row(
     faults: FarFaults,
     graph: &LargeGraph,
@@ -113,8 +113,8 @@ pub(crate) fn far_table(
     far_verdict(faults)
 }
 
-/// Judges the table of costs that comes, none where it has not the sizes of the version, or a number above the cost. One
-/// row of it is held at a time.
+/// Judges the table of costs that comes. The result is none where it doesn't have the sizes of the version, or has a number
+/// above the cost. One row of it is held at a time.
 pub(crate) fn judge_far<R: Read>(
     alloc: Global,
     graph: &LargeGraph,

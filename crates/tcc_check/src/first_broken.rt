@@ -1,4 +1,4 @@
-//! Where a row first has more than a link takes.
+//! Where a row first has more than a link costs.
 ghost use Rattle.std.specs.Prelude.{◌≡◌, ◌<◌, ◌≤◌, ◌+◌, ◌^◌, length, All};
 ghost use Rattle.tcc_reads.specs.History.{count};
 ghost use Rattle.tcc_check.specs.{private.Runs.HasRuns, private.Weights.AreByWeight};
@@ -20,7 +20,7 @@ fn greatest_of(row: &[u32]) -> u32
     greatest
 }
 
-/// The lesser of what was found.
+/// The lesser of two positions that may be found.
 fn lesser(one: Option<u32>, other: Option<u32>) -> Option<u32>
     ensures { result ≡ lesser one other }
 {
@@ -46,8 +46,8 @@ fn overshot_at(ends: &[u16], row: &[u32], low: u32, cost: u64) -> Option<u32>
     found
 }
 
-/// The first end of these links to which the link takes less than the row has, after so many steps: the row's numbers
-/// are those from `low` upward, none above `most`. Behind the first link that takes so many none is looked at.
+/// The first end of these links to which the link, after `before` steps, costs less than the row has. The row's numbers are
+/// those from `low` upward, none above `most`. No link is looked at from the first that costs `most` on.
 fn overshot(links: &Groups, row: &[u32], low: u32, before: u32, most: u32) -> Option<u32>
     requires inside { All (λ link. link.0 < low + length row.now) links.now }
     requires sorted { AreByWeight links.now }
@@ -68,7 +68,8 @@ fn overshot(links: &Groups, row: &[u32], low: u32, before: u32, most: u32) -> Op
     found
 }
 
-/// The least number of the run of `end` before it: where the run begins, that of `init` alone, else what was carried along.
+/// The least number of the run of `end` before it. Where the run begins it is that of `init` alone, else the one carried
+/// along.
 fn run_least(begin: u32, end: usize, opening: u32, least: u32) -> u32
     ensures anew { begin ≡ end → result ≡ opening }
     ensures on { (begin ≡ end → ⊥) → result ≡ least }
@@ -80,7 +81,7 @@ fn run_least(begin: u32, end: usize, opening: u32, least: u32) -> u32
     }
 }
 
-/// The first end to which a session pair takes less than the row has, after what the row has for its start. The least
+/// The first end to which a session pair costs less than the row has, after what the row has for its start. The least
 /// number of the end's run is carried along.
 fn long_run(begins: &[u32], row: &[u32], low: u32) -> Option<u32>
     requires begins { length begins.now ≡ low + length row.now }
@@ -104,8 +105,8 @@ fn long_run(begins: &[u32], row: &[u32], low: u32) -> Option<u32>
     None
 }
 
-/// The first end to which some link takes less than the row has, after what the row has for its start: a session pair, or
-/// one of the others, which stand by their starts.
+/// The first end to which some link costs less than the row has, after what the row has for its start. The link is a
+/// session pair, or one of the others, which are listed by their starts.
 fn long_step(begins: &[u32], others: &[Groups], row: &[u32], low: u32, most: u32) -> Option<u32>
     requires long { length others.now ≡ low + length row.now }
     requires begins { length begins.now ≡ low + length row.now }
@@ -125,8 +126,8 @@ fn long_step(begins: &[u32], others: &[Groups], row: &[u32], low: u32, most: u32
     found
 }
 
-/// What was found in an earlier row, or else the first in the row of `start` to which some link takes less
-/// than the row has. Behind what is broken nothing is looked for.
+/// What was found in an earlier row, or else the first in the row of `start` to which some link costs less than the row
+/// has. Once something is broken, nothing more is looked for.
 pub(crate) fn first_long_step(
     found: Option<(u32, u32)>,
     start: u32,
@@ -168,7 +169,7 @@ fn long_pair(graph: &LargeGraph, row: &[u32], low: u32, start: u32) -> Option<u3
     None
 }
 
-/// The first end to which a link from the start, a session pair or one of the others, takes less than the row has.
+/// The first end to which a link from the start, a session pair or one of the others, costs less than the row has.
 pub(crate) fn long_link(
     graph: &LargeGraph,
     others: &Groups,

@@ -5,7 +5,7 @@ use std::alloc::{AllocError, Global};
 use std::marker::Model;
 
 /// Transactions, each with what it is grouped by: an end of a link with the link's weight, or a reader with its source.
-/// Those with the same that stand beside one another are a group: what they have, and how many they are.
+/// Neighbours with the same value are a group: that value, and how many they are.
 #[derive(Drop)]
 pub(crate) struct Groups {
     members: Vec<u16>,
@@ -66,7 +66,7 @@ impl Groups {
         Ok(Groups { members, groups })
     }
 
-    /// Whether a group has so many on average.
+    /// Whether a group has more than `many` members on average.
     pub(crate) fn are_wide(&self, many: usize) -> bool {
         self.groups.len() < self.members.len() / many.max(1)
     }

@@ -1,5 +1,5 @@
-//! The axiom, asked of few: of the writers that stand behind what is read, or, where the writers are many, of each session
-//! only the last one that a reader's clock reaches. Those before it stand before it in the order too.
+//! The axiom, asked of few writers: those that come after what is read. Where the writers are many, only the last one of
+//! each session that a reader's clock reaches is asked. Those before it come before it in the order too.
 ghost use Rattle.std.specs.Prelude.{ℕ, ◌≡◌, ◌≢◌, ◌<◌, ◌≤◌, ◌^◌, ◌↔◌, List, All, Contains, length, slice_index, IfOk, IsTrue};
 ghost use Rattle.tcc_reads.specs.History.{IsBySession, count, owner};
 ghost use Rattle.tcc_graph.specs.{Keys.key_at, Keys.keys, declared.level.Level.TheVariants.Causal};
@@ -13,7 +13,7 @@ use tcc_cert::Numbers;
 use tcc_graph::{LargeGraph, Level};
 use tcc_txn::NoMemory;
 
-/// To look for the last writer of a session takes about as long as to ask so many writers.
+/// To look for the last writer of a session takes about as long as to ask this many writers.
 const WRITERS_ASKED: usize = 16;
 
 /// Whether a transaction is of an earlier session, or of this one and no later than the place, or `init`.
@@ -26,7 +26,7 @@ fn is_within(graph: &LargeGraph, session: u32, place: u32, number: u32) -> bool
     }
 }
 
-/// How many of these come no later than the place of the session. They are the first ones.
+/// How many of these come no later than the place of the session. They are the first of the list.
 fn count_within(graph: &LargeGraph, writers: &[u32], session: u32, place: u32) -> usize
     requires numbered { IsBySession graph.now.entries }
     requires writers { AreRising graph.now writers.now }
@@ -48,8 +48,8 @@ fn last_within(graph: &LargeGraph, writers: &[u32], session: u32, place: u32) ->
     Some(writers[count - 1])
 }
 
-/// Whether the last of these that comes no later than the place of the session, if it is of the session, doesn't stand
-/// behind the source.
+/// Whether the last of these that comes no later than the place of the session, if it is of the session, isn't after the
+/// source.
 pub(crate) fn stands_before(
     graph: &LargeGraph,
     positions: &[u32],
@@ -75,7 +75,7 @@ pub(crate) fn stands_before(
     }
 }
 
-/// Whether none of these that the clock reaches stands behind the source.
+/// Whether none of these that the clock reaches comes after the source.
 fn stand_before(
     graph: &LargeGraph,
     positions: &[u32],
@@ -107,7 +107,7 @@ fn may_reach(graph: &LargeGraph, clocks: &[Numbers], b: u32, c: u32) -> bool
     clock_gap(graph, clocks, b, c) == 0
 }
 
-/// Whether none of these that may reach the source's reader stands behind the source. Each of them is asked.
+/// Whether none of these that may reach the source's reader comes after the source. Each of them is checked.
 fn reached_before(
     graph: &LargeGraph,
     positions: &[u32],
@@ -135,8 +135,8 @@ fn reached_before(
     true
 }
 
-/// Whether the axiom is kept by a read of `c` at a key: no other writer of the key that the clock of `c`
-/// reaches stands behind the source. Each is asked, or, where they are many, the last of each session.
+/// Whether the axiom is kept by a read of `c` at a key: no other writer of the key that the clock of `c` reaches comes
+/// after the source. Each is checked, or, where they are many, the last of each session.
 fn is_read_kept(
     graph: &LargeGraph,
     positions: &[u32],
@@ -161,7 +161,7 @@ fn is_read_kept(
     }
 }
 
-/// Whether the axiom is kept by all reads of `c`, as its clock tells.
+/// Whether the axiom is kept by all reads of `c`, as its clock says.
 fn are_reads_kept(graph: &LargeGraph, positions: &[u32], clocks: &[Numbers], c: u32) -> bool
     requires order { KeepsPairsBy graph.now Causal positions.now clocks.now }
     requires owners { AreOwned graph.now }
@@ -198,7 +198,7 @@ fn are_owned(graph: &LargeGraph) -> bool
     true
 }
 
-/// Whether the axiom is kept by all reads of `c`, as its clock tells, or, at `Atomic`, the pairs that lead to it.
+/// Whether the axiom is kept by all reads of `c`, as its clock says, or, at `Atomic`, the pairs that lead to it.
 fn is_reader_right(
     alloc: Global,
     graph: &LargeGraph,
@@ -218,7 +218,8 @@ fn is_reader_right(
     }
 }
 
-/// Whether the axiom is kept, by what is asked of the last writers. Where it isn't, something is broken by the axiom.
+/// Whether the last writers show that the axiom is kept. Where they don't, it may be broken, and each transaction has to be
+/// checked.
 pub(crate) fn keeps_axiom(
     alloc: Global,
     graph: &LargeGraph,

@@ -17,7 +17,7 @@ pub fn certified_order()
     ensures { (h : History) (k : OrderClaim) → CertifiesOrder h k → IsCommitOrder (judged h k.level) k.order }
 {}
 
-/// What a certificate claims, of whatever version and level, is true where it keeps the rules.
+/// The claim of a certificate, of whatever version and level, is true where it keeps the rules.
 pub fn certified()
     ensures { (h : History) (k : Certificate) → Certifies h k → IsTrueClaim h k }
 {}

@@ -1,4 +1,4 @@
-//! The independent checker: judges a certificate of anybody's by the rules alone.
+//! The independent checker: judges a certificate from any source by the rules alone.
 #![tactic(auto)]
 
 mod adjacency;

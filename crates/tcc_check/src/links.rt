@@ -36,8 +36,8 @@ pub(crate) fn links_verdict(graph: &LargeGraph, claim: &CycleClaim) -> Result<Ve
     Ok(wrong_verdict(wrong))
 }
 
-/// Judges the links that come, none where one of their numbers is not below that of the transactions. One of them is
-/// held at a time.
+/// Judges the links that come. The result is none where one of their numbers is not below the count of transactions. One
+/// link is held at a time.
 pub(crate) fn judge_links<R: Read>(
     alloc: Global,
     graph: &LargeGraph,

@@ -14,7 +14,7 @@ use std::alloc::Global;
 use tcc_graph::LargeGraph;
 use tcc_txn::NoMemory;
 
-/// Stands where there is no link; no number of a table is above it.
+/// The weight where there is no link; no number of a table is above it.
 pub(crate) const UNLINKED: u32 = u32::MAX;
 
 /// Lowers the weights of these readers to 0.
@@ -72,7 +72,7 @@ pub(crate) fn pair_weights(
     Ok(weights)
 }
 
-/// Lowers the weights of the sources of these keys, but that of `start`, to what the row has for who reads them there.
+/// Lowers the weights of the sources of these keys, but that of `start`, to what the row has for their readers there.
 fn lower_keys(
     weights: &mut [u32],
     graph: &LargeGraph,
@@ -106,7 +106,7 @@ fn lower_source(weights: &mut [u32], source: u32, readers: &[u32], row: &[u32])
     }
 }
 
-/// Does so for each source but `init`, which writes every key.
+/// Does that for each source but `init`, which writes every key.
 fn lower_sources(weights: &mut [u32], graph: &LargeGraph, row: &[u32])
     requires weights { length weights.old ≡ count graph.now }
     requires row { length row.now ≡ count graph.now }
@@ -173,7 +173,7 @@ fn light_ends(alloc: Global, weights: &[u32], least: u32) -> Result<Groups, NoMe
     Ok(Groups::new(alloc, &ends)?)
 }
 
-/// The links from `start`, by its row of lengths, that take less than `least`.
+/// The links from `start`, by its row of lengths, that cost less than `least`.
 pub(crate) fn link_ends(
     alloc: Global,
     graph: &LargeGraph,

@@ -1,4 +1,4 @@
-//! The rows of lengths, each judged as it comes: what is kept of it are the links that it tells of.
+//! The rows of lengths, each judged as it comes. Only the links that it gives are kept.
 ghost use Rattle.std.specs.Prelude.{◌≡◌, ◌<◌, ◌≤◌, ◌+◌, ◌++◌, [], All, IfOk, IfSome, OnOk, List, MatchOption, length, map, ℕ};
 ghost use Rattle.tcc_txn.specs.declared.limits.TheConstants.{MAX_COUNT};
 ghost use Rattle.tcc_reads.specs.History.{History, count};
@@ -47,7 +47,7 @@ pub(crate) struct NearJudged {
     pub(crate) links: Vec<Groups>,
 }
 
-/// What is found with one row more. At `Atomic` no walk has a second step, so the rule on these isn't asked.
+/// What is found with one more row. At `Atomic` no walk has a second step, so the rule on these isn't asked.
 fn with_row(
     graph: &LargeGraph,
     level: Level,
@@ -77,7 +77,7 @@ fn with_row(
     }
 }
 
-/// Takes one row more: judges it, and keeps the links that it tells of.
+/// Takes one more row: judges it, and keeps the links that it gives.
 fn take_row(
     alloc: Global,
     graph: &LargeGraph,
@@ -166,8 +166,8 @@ pub(crate) fn near_table(
     Ok(judged(pairs, rows))
 }
 
-/// Judges the table of lengths that comes, none where it has not the size of the history, or a number above the cost. One
-/// row of it is held at a time.
+/// Judges the table of lengths that comes. The result is none where it doesn't have the size of the history, or has a
+/// number above the cost. One row of it is held at a time.
 pub(crate) fn judge_near<R: Read>(
     alloc: Global,
     graph: &LargeGraph,

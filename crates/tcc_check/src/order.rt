@@ -23,7 +23,7 @@ use tcc_graph::{LargeGraph, Level};
 use tcc_rules::{Rule, Verdict};
 use tcc_txn::NoMemory;
 
-/// How far a session got by a clock.
+/// How much of a session a clock has.
 fn clock_at(clocks: &[Numbers], number: u32, session: u32) -> u32
     requires { number < length clocks.now }
     ensures { result ≡ entry clocks.now number session }
@@ -32,7 +32,7 @@ fn clock_at(clocks: &[Numbers], number: u32, session: u32) -> u32
     clock.get(session as usize).copied().unwrap_or(0)
 }
 
-/// How much the clock of `c` lacks to have `b`: nothing where, by the clock, `b` may reach `c`.
+/// How much is missing from the clock of `c` to have `b`: nothing where, by the clock, `b` may reach `c`.
 pub(crate) fn clock_gap(graph: &LargeGraph, clocks: &[Numbers], b: u32, c: u32) -> u32
     requires b { b < count graph.now }
     requires c { c < length clocks.now }
@@ -68,7 +68,7 @@ fn is_in_clock(graph: &LargeGraph, clocks: &[Numbers], b: u32, c: u32) -> bool
         && clock_gap(graph, clocks, b, c) == 0
 }
 
-/// Whether `b` stands before `c`, and the clock of `c`, where there are clocks, has that of `b` and `b` itself.
+/// Whether `b` comes before `c`, and the clock of `c`, where there are clocks, has that of `b` and `b` itself.
 fn is_kept(graph: &LargeGraph, claim: &OrderClaim, positions: &[u32], b: u32, c: u32) -> bool
     requires positions { length positions.now ≡ count graph.now }
     requires sizes { HasOrderSizes graph.now claim.now }
@@ -100,8 +100,8 @@ fn keeps_sources(graph: &LargeGraph, claim: &OrderClaim, positions: &[u32], c: u
     true
 }
 
-/// Whether all causal pairs that end at `c` are kept, where those that end before it are: of session order it is enough
-/// to ask of the last transaction before `c`.
+/// Whether all causal pairs that end at `c` are kept, where those that end before it are. For session order it is enough to
+/// check the last transaction before `c`.
 fn keeps_pairs_to(graph: &LargeGraph, claim: &OrderClaim, positions: &[u32], c: u32) -> bool
     requires numbered { IsBySession graph.now.entries }
     requires positions { length positions.now ≡ count graph.now }
@@ -131,7 +131,7 @@ fn keeps_pairs(graph: &LargeGraph, claim: &OrderClaim, positions: &[u32]) -> boo
     true
 }
 
-/// How much the clock of each transaction lacks to have `b`.
+/// How much is missing from the clock of each transaction to have `b`.
 fn clock_gaps(
     alloc: Global,
     graph: &LargeGraph,
@@ -150,8 +150,8 @@ fn clock_gaps(
     Ok(row)
 }
 
-/// How much lacks for `b` to reach each transaction, so far as the level asks: at `Atomic` there are no clocks, and
-/// nothing lacks for causal pairs alone.
+/// How much is missing for `b` to reach each transaction, as far as the level asks. At `Atomic` there are no clocks, and
+/// nothing is missing for causal pairs alone.
 fn gaps(
     alloc: Global,
     graph: &LargeGraph,
@@ -170,7 +170,7 @@ fn gaps(
     }
 }
 
-/// The first transaction that `b`, by these weights, contradicts, and does not stand before.
+/// The first transaction that `b` contradicts by these weights and does not precede.
 fn first_behind(positions: &[u32], weights: &[u32], b: u32) -> Option<u32>
     requires size { length weights.now ≡ length positions.now }
     requires b { b < length positions.now }
@@ -185,7 +185,7 @@ fn first_behind(positions: &[u32], weights: &[u32], b: u32) -> Option<u32>
     None
 }
 
-/// The first transaction before which the axiom wants `b`, which does not stand there.
+/// The first transaction that `b` has to precede by the axiom, and does not.
 fn broken_by(
     alloc: Global,
     graph: &LargeGraph,

@@ -6,7 +6,7 @@ ghost use Rattle.tcc_check.specs.private.Positions.{ArePositions};
 use std::alloc::Global;
 use tcc_txn::NoMemory;
 
-/// Stands for a number that was not seen.
+/// The position of a number that was not seen.
 const UNPLACED: u32 = u32::MAX;
 
 /// The position of each number, none where the order has a number twice or one that is not below its length.

@@ -13,7 +13,7 @@ use std::alloc::Global;
 use tcc_graph::LargeGraph;
 use tcc_txn::NoMemory;
 
-/// A source that has fewer readers is looked up for each of them.
+/// Where the sources of a key have fewer readers than this on average, the source is looked up for each reader.
 const READERS_GROUPED: usize = 4;
 
 /// Who reads a key, each with the source, where the sources have many readers.
@@ -65,8 +65,8 @@ pub(crate) fn least_of(row: &[u32]) -> u32
     least
 }
 
-/// The least that the row has for one of these readers. None of its numbers is below the floor, so behind one that is as
-/// low none is looked at.
+/// The least that the row has for one of these readers. None of its numbers is below the floor, so none is looked at after
+/// one that is as low.
 fn least_for(readers: &[u16], row: &[u32], floor: u32) -> u32
     requires readers { All (λ reader. reader < length row.now) readers.now }
     requires floor { All (λ value. floor ≤ value) row.now }
@@ -116,8 +116,7 @@ fn lower_pairs(weights: &mut [u32], sources: &[u32], readers: &[u32], row: &[u32
     }
 }
 
-/// Lowers the weights of the sources of a key, but that of `start`, to what the row has for who reads them
-/// there.
+/// Lowers the weights of the sources of a key, but that of `start`, to what the row has for their readers there.
 pub(crate) fn lower_key(
     weights: &mut [u32],
     graph: &LargeGraph,

@@ -7,7 +7,7 @@ use std::alloc::Global;
 use tcc_graph::LargeGraph;
 use tcc_txn::NoMemory;
 
-/// Where the run of each transaction begins: up to it, each number stands before the next in session order.
+/// Where the run of each transaction begins: up to it, each number comes before the next in session order.
 pub(crate) fn run_begins(alloc: Global, graph: &LargeGraph) -> Result<Vec<u32>, NoMemory>
     requires numbered { IsBySession graph.now.entries }
     ensures { IfOk result (λ begins. AreRuns graph.now begins.items) }

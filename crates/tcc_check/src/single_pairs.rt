@@ -1,5 +1,5 @@
-//! The axiom at `Atomic`, where a transaction reaches a reader by a single pair: of the reader's session the last writer
-//! before it is asked, and of the reader's sources what else they write.
+//! The axiom at `Atomic`, where a transaction reaches a reader by a single pair. Of the reader's session the last writer
+//! before it is checked, and of the reader's sources what else they write.
 ghost use Rattle.std.specs.Prelude.{ℕ, ◌≡◌, ◌<◌, List, IfOk, IsTrue, length};
 ghost use Rattle.tcc_reads.specs.History.{count};
 ghost use Rattle.tcc_graph.specs.{Keys.keys, declared.level.Level.TheVariants.Atomic};
@@ -11,10 +11,10 @@ use std::alloc::Global;
 use tcc_graph::LargeGraph;
 use tcc_txn::NoMemory;
 
-/// Stands for a key that is not read. No position in an order is above it.
+/// The position of a key that is not read. No position in an order is above it.
 const UNREAD: u32 = u32::MAX;
 
-/// For each key the position in the order of whom `c` reads it from, or `UNREAD`.
+/// For each key the position in the order of the source that `c` reads it from, or `UNREAD`.
 fn source_positions(
     alloc: Global,
     graph: &LargeGraph,
@@ -34,7 +34,7 @@ fn source_positions(
     Ok(sources)
 }
 
-/// Whether `b` stands behind none of these sources whose key it writes too.
+/// Whether `b` comes after none of these sources whose key it writes too.
 fn writer_stands(graph: &LargeGraph, positions: &[u32], sources: &[u32], b: u32) -> bool
     requires positions { length positions.now ≡ count graph.now }
     requires sources { length sources.now ≡ length (keys graph.now) }
@@ -49,7 +49,7 @@ fn writer_stands(graph: &LargeGraph, positions: &[u32], sources: &[u32], b: u32)
     true
 }
 
-/// Whether no source of `c` stands behind another one whose key it writes too.
+/// Whether no source of `c` comes after another one whose key it writes too.
 fn sources_stand(
     alloc: Global,
     graph: &LargeGraph,
@@ -69,7 +69,7 @@ fn sources_stand(
     Ok(true)
 }
 
-/// Whether none of these writers that stands before `c` in its session stands behind the source.
+/// Whether none of these writers that come before `c` in its session comes after the source.
 fn session_stands(
     graph: &LargeGraph,
     positions: &[u32],
@@ -91,7 +91,7 @@ fn session_stands(
     stands_before(graph, positions, writers, (session, place - 1), source)
 }
 
-/// Whether none of its session stands behind what `c` reads, at a key that it writes too.
+/// Whether none of its session comes after what `c` reads, at a key that it writes too.
 fn sessions_stand(graph: &LargeGraph, positions: &[u32], c: u32) -> bool
     requires positions { KeepsSessions graph.now positions.now }
     requires reader { c < count graph.now }

@@ -4,7 +4,7 @@ ghost use Rattle.tcc_cert.specs.Tables.{lowest, HasSize, HasFarSize, IsCapped};
 
 use tcc_cert::{Numbers, Version};
 
-/// Whether a table has so many rows, each with so many numbers.
+/// Whether a table has `rows` rows, each with `columns` numbers.
 pub(crate) fn has_size(table: &[Numbers], rows: usize, columns: usize) -> bool
     ensures { IsTrue result ↔ HasSize rows columns table.now }
 {
@@ -22,7 +22,7 @@ pub(crate) fn lowest(version: Version, start: u32) -> u32
     }
 }
 
-/// Whether a table of costs has so many rows, each with a number for each transaction from the lowest on.
+/// Whether a table of costs has `count` rows, each with a number for each transaction from the lowest on.
 pub(crate) fn has_far_size(version: Version, table: &[Numbers], count: u32) -> bool
     ensures { IsTrue result ↔ HasFarSize version count table.now }
 {
@@ -45,7 +45,7 @@ fn is_row_capped(row: &[u32], most: u32) -> bool
     row.iter().all(|value| *value <= most)
 }
 
-/// Whether a row has so many numbers, none above the limit.
+/// Whether a row has `long` numbers, none above the limit.
 pub(crate) fn is_row_right(row: &[u32], long: usize, most: u32) -> bool
     ensures { IsTrue result ↔ ((length row.now ≡ long) × All (λ value. value ≤ most) row.now) }
 {

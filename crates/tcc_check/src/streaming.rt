@@ -25,8 +25,8 @@ use tcc_rules::{Claim, Judgement, Rule, StreamFault, Verdict};
 /// A claim and the verdict on it, or why there is none.
 pub type Judging = Result<Judgement, StreamFault>;
 
-/// What the rules behind that on sizes say of a claim that a cycle is least, whose links and tables come; none where the
-/// rule on sizes is broken.
+/// What the rules after the one on sizes say of a claim that a cycle is least, whose links and tables come. It is none
+/// where the rule on sizes is broken.
 fn judge_tables<R: Read>(
     alloc: Global,
     graph: &LargeGraph,
@@ -56,7 +56,7 @@ fn judge_tables<R: Read>(
     Ok(Some(first_rejected(of_links, of_tables)))
 }
 
-/// The verdict on tables, where they have the right sizes and nothing comes behind them.
+/// The verdict on tables, where they have the right sizes and nothing comes after them.
 fn sized(found: Option<Verdict>, at_once: bool) -> Verdict
     ensures { result ≡ sized found at_once }
 {
@@ -108,7 +108,7 @@ pub fn judge_parts<R: Read>(alloc: Global, graph: &Graph, parts: &mut CertReader
     }
 }
 
-/// Reads on to the end behind a claim.
+/// Reads on to the end after a claim.
 fn ended<R: Read>(
     alloc: Global,
     parts: &mut CertReader<R>,
@@ -120,8 +120,8 @@ fn ended<R: Read>(
     Ok(claim)
 }
 
-/// What the certificate claims whose parts a new reader gives, or the fault of the text, which is read to its end. Nothing is
-/// judged: it is for those who know that the claim is not about their history.
+/// The claim of the certificate whose parts a new reader gives, or the fault of the text. The text is read to its end, and
+/// nothing is judged. It is for callers that know that the claim is not about their history.
 pub fn claim_in<R: Read>(alloc: Global, parts: &mut CertReader<R>) -> Result<Claim, StreamFault>
     requires { is_new parts.old ≡ true }
     ensures { (bytes : List ℕ) → IsAhead R.remaining parts.old (parts_read bytes) → IsClaimed bytes result }
@@ -144,7 +144,7 @@ pub fn judge_stream<R: Read + Drop>(alloc: Global, graph: &Graph, reader: R) -> 
 }
 
 /// The verdict alone: that of the rules on the certificate whose text the reader gives, or the fault of the text, also
-/// where a rule is broken before it. It is for those who know what is claimed, and ask whether it is certified.
+/// where a rule is broken before it. It is for callers that know what is claimed, and ask whether it is certified.
 pub fn check_stream<R: Read + Drop>(
     alloc: Global,
     graph: &Graph,

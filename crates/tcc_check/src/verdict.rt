@@ -5,7 +5,7 @@ ghost use Rattle.tcc_rules.specs.declared.verdict.Verdict.TheVariants as verdict
 
 use tcc_rules::{Rule, Verdict};
 
-/// The verdict that this rule is the first broken one, of a rule that names nothing, or a number from 1.
+/// The verdict that this rule is the first broken one. The rule names nothing, or a number from 1.
 pub(crate) fn rejected(rule: Rule, at: u32) -> Verdict
     ensures { result ≡ verdict.Rejected rule (at, 0) }
 {
@@ -27,7 +27,7 @@ pub(crate) fn first_of(
     }
 }
 
-/// The first of two verdicts that is no acceptance.
+/// The first of two verdicts that is not an acceptance.
 pub(crate) fn first_rejected<R: Drop>(earlier: Verdict<R>, later: Verdict<R>) -> Verdict<R>
     ensures { result ≡ first_rejected earlier later }
 {

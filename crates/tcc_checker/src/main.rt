@@ -3,10 +3,10 @@
 #![tactic(auto)]
 
 use std::process::ExitCode;
-use tcc_cli::{Telling, check_files, exit_code, read_check};
+use tcc_cli::{ErrorReporter, check_files, exit_code, read_check};
 
 fn main(rt: HostRuntime) -> ExitCode {
-    let mut out = Telling::new(rt.stdout(), "standard output", rt.stderr());
+    let mut out = ErrorReporter::new(rt.stdout(), "standard output", rt.stderr());
     let code = match read_check(&rt, &mut out) {
         Ok(files) => check_files(
             &rt,

@@ -6,7 +6,7 @@ ghost use Rattle.tcc_cli.specs.Files.{IsRunWithin, PrintsUnopened, PrintsWithin}
 ghost use Rattle.tcc_cli.specs.Opened.{IsAside};
 
 use crate::files::{open, print_unopened};
-use crate::telling::Telling;
+use crate::reporting::ErrorReporter;
 use std::alloc::Global;
 use std::fs::File;
 use std::io::{self, Read, Write};
@@ -17,7 +17,7 @@ pub fn open_both<'a>(
     rt: &HostRuntime,
     history: &'a str,
     certificate: &'a str,
-) -> io::Result<(Telling<'a, File>, Telling<'a, File>)>
+) -> io::Result<(ErrorReporter<'a, File>, ErrorReporter<'a, File>)>
     ensures history { IfOk result (λ both. both.0.name ≡ history.entry) }
     ensures certificate { IfOk result (λ both. both.1.name ≡ certificate.entry) }
     ensures history_aside { IfOk result (λ both. IsAside both.0.stream) }

@@ -5,14 +5,14 @@ ghost use Rattle.tcc_cli.specs.Files.{AreBothGiven, IsInputOf, PrintsUnopened};
 ghost use Rattle.tcc_cli.specs.Opened.{IsAside};
 
 use crate::input::RecordInput;
-use crate::opening::{self, Apart};
-use crate::telling::Telling;
+use crate::opening::{self, OutputFile};
+use crate::reporting::ErrorReporter;
 use std::fs::File;
 use std::io::{self, ErrorKind, Write};
 use tcc_print::printing::{print_device, print_memory};
 
 /// The file, if it could be opened or made; else standard error is told which one could not, and why.
-fn told<T: Drop>(rt: &HostRuntime, path: &str, opened: io::Result<T>) -> io::Result<T>
+fn report<T: Drop>(rt: &HostRuntime, path: &str, opened: io::Result<T>) -> io::Result<T>
     ensures { result ≡ opened }
 {
     if let Err(error) = &opened {
@@ -22,28 +22,28 @@ fn told<T: Drop>(rt: &HostRuntime, path: &str, opened: io::Result<T>) -> io::Res
 }
 
 /// Opens a file to read, which tells why where that fails, or a read does.
-pub(crate) fn open<'a>(rt: &HostRuntime, path: &'a str) -> io::Result<Telling<'a, File>>
+pub(crate) fn open<'a>(rt: &HostRuntime, path: &'a str) -> io::Result<ErrorReporter<'a, File>>
     ensures name { IfOk result (λ telling. telling.name ≡ path.entry) }
     ensures aside { IfOk result (λ telling. IsAside telling.stream) }
 {
-    let file = told(rt, path, opening::open(rt, path))?;
-    Ok(Telling::new(file, path, rt.stderr()))
+    let file = report(rt, path, opening::open(rt, path))?;
+    Ok(ErrorReporter::new(file, path, rt.stderr()))
 }
 
 /// Opens the file of the records, if one is given; without it they are those of the standard input.
 pub fn open_input<'a>(
     rt: &HostRuntime,
     path: Option<&'a str>,
-) -> io::Result<Telling<'a, RecordInput>>
+) -> io::Result<ErrorReporter<'a, RecordInput>>
     ensures stream { IfOk result (λ telling. IsInputOf path.entry telling.stream) }
     ensures name { IfOk result (λ telling. MatchOption path.entry (telling.name.now ≡ codes "standard input") (λ name. telling.name ≡ name)) }
 {
     match path {
         Some(path) => {
-            let file = told(rt, path, opening::open(rt, path))?;
-            Ok(Telling::new(RecordInput::File(file), path, rt.stderr()))
+            let file = report(rt, path, opening::open(rt, path))?;
+            Ok(ErrorReporter::new(RecordInput::File(file), path, rt.stderr()))
         }
-        None => Ok(Telling::new(
+        None => Ok(ErrorReporter::new(
             RecordInput::Standard(rt.stdin()),
             "standard input",
             rt.stderr(),
@@ -57,22 +57,25 @@ pub fn open_output<'a>(
     rt: &HostRuntime,
     path: Option<&'a str>,
     input: &RecordInput,
-) -> io::Result<Option<Telling<'a, Apart>>>
+) -> io::Result<Option<ErrorReporter<'a, OutputFile>>>
     ensures given { IfOk result (AreBothGiven path.entry) }
     ensures name { IfOk result (λ file. IfSome file (λ telling. IfSome path.entry (λ name. telling.name ≡ name))) }
     ensures aside { IfOk result (λ file. IfSome file (λ telling. IsAside telling.stream.file)) }
 {
     match path {
         Some(path) => {
-            let file = told(rt, path, opening::make(rt, path, input))?;
-            Ok(Some(Telling::new(file, path, rt.stderr())))
+            let file = report(rt, path, opening::make(rt, path, input))?;
+            Ok(Some(ErrorReporter::new(file, path, rt.stderr())))
         }
         None => Ok(None),
     }
 }
 
 /// Whether both are given, and are the same file.
-fn are_one(one: &Option<Telling<'_, Apart>>, other: &Option<Telling<'_, Apart>>) -> bool
+fn are_one(
+    one: &Option<ErrorReporter<'_, OutputFile>>,
+    other: &Option<ErrorReporter<'_, OutputFile>>,
+) -> bool
     ensures { MatchOption one.now (result ≡ false) (λ a. MatchOption other.now (result ≡ false)
         (λ b. IsTrue result ↔ AreSame a.stream.id b.stream.id)) }
 {
@@ -88,7 +91,12 @@ pub fn open_outputs<'a>(
     certificate: Option<&'a str>,
     slice: Option<&'a str>,
     input: &RecordInput,
-) -> io::Result<(Option<Telling<'a, Apart>>, Option<Telling<'a, Apart>>)>
+) -> io::Result<
+    (
+        Option<ErrorReporter<'a, OutputFile>>,
+        Option<ErrorReporter<'a, OutputFile>>,
+    ),
+>
     ensures certificate { IfOk result (λ both. AreBothGiven certificate.entry both.0) }
     ensures slice { IfOk result (λ both. AreBothGiven slice.entry both.1) }
     ensures certificate_name { IfOk result (λ both. IfSome both.0 (λ telling. IfSome certificate.entry (λ name. telling.name ≡ name))) }

@@ -11,7 +11,7 @@ mod help;
 mod input;
 mod opening;
 mod quiet;
-mod telling;
+mod reporting;
 mod terminal;
 
 pub use checker::{read_check, read_check_words};
@@ -21,7 +21,7 @@ pub use ending::exit_code;
 pub use files::{open_input, open_output, open_outputs, print_unopened};
 pub use help::VERSION;
 pub use input::RecordInput;
-pub use opening::Apart;
+pub use opening::OutputFile;
 pub use quiet::Quiet;
-pub use telling::Telling;
+pub use reporting::ErrorReporter;
 pub use terminal::{are_waited_for, is_waited_for, size_of};

@@ -126,36 +126,36 @@ impl Streams {
 
 /// A file to write, which is neither the input, nor the output, nor standard error.
 #[derive(Drop)]
-pub struct Apart {
+pub struct OutputFile {
     file: File,
     id: Option<FileId>,
     streams: Streams,
     ghost apart: { IsTaken id streams → ⊥ },
 }
 
-impl Apart {
+impl OutputFile {
     /// The file with this id, unless it is one of the streams.
-    fn new(file: File, id: Option<FileId>, streams: Streams) -> io::Result<Apart>
+    fn new(file: File, id: Option<FileId>, streams: Streams) -> io::Result<OutputFile>
         ensures { MatchResult result (λ made. made.file ≡ file) (λ _. IsTaken id streams) }
     {
         if streams.have(id) {
             let message = "it is the input, the output or standard error";
             return Err(io::Error::new(ErrorKind::ResourceBusy, message));
         }
-        Ok(Apart { file, id, streams })
+        Ok(OutputFile { file, id, streams })
     }
 }
 
-impl Apart {
+impl OutputFile {
     /// Whether both are the same file.
-    pub(crate) fn is_same(&self, other: &Apart) -> bool
+    pub(crate) fn is_same(&self, other: &OutputFile) -> bool
         ensures { IsTrue result ↔ AreSame self.now.id other.now.id }
     {
         is_same(self.id, other.id)
     }
 }
 
-impl Write for Apart {
+impl Write for OutputFile {
     /// Writes to the file. Where that fails it is made empty again, since a part of some records may pass for a whole history.
     fn write(&mut self, bytes: &[u8]) -> io::Result<usize> {
         match self.file.write(bytes) {
@@ -205,13 +205,13 @@ fn as_it_is() -> OpenOptions
 
 /// Makes a file to write, and makes it empty where it is there. But where it is the input, the output or standard error, or one of
 /// the first two is closed, nothing that it holds is touched.
-pub fn make(rt: &HostRuntime, path: &str, input: &RecordInput) -> io::Result<Apart>
+pub fn make(rt: &HostRuntime, path: &str, input: &RecordInput) -> io::Result<OutputFile>
     ensures { IfOk result (λ made. IsAside made.file) }
 {
     let opened = as_it_is().open(rt, path)?;
     let file = aside(opened)?;
     let metadata = file.metadata()?;
-    let made = Apart::new(file, FileId::of(&metadata), Streams::of(rt, input)?)?;
+    let made = OutputFile::new(file, FileId::of(&metadata), Streams::of(rt, input)?)?;
     if metadata.is_file() {
         made.file.set_len(0)?;
     }

@@ -1,4 +1,4 @@
--- What a row says of one session: of those meant so far, and of one more.
+-- What a row says about one session: for a set of transactions, and for one more of them.
 use Rattle.std.proofs.Common.{◌≡◌, ◌≢◌, ◌<◌, ◌≤◌, ◌+◌, ◌==◌, ◌↔◌, ◌⊎◌, inl, inr, ℕ, true, false, ◌&&◌, nat_lt, List, slice_index, refl, sym, ◌∙◌, subst, arith}
 use Rattle.std.specs.Prelude.{max, min}
 use Rattle.std.proofs.lemmas.Bool.{cases_lt, cases_eq, cases_Bool, and_parts, and_from, ltb-true, lt-ltb, eqb-true, eq-eqb, false≢true}
@@ -12,7 +12,7 @@ use Rattle.tcc_clocks.specs.declared.side.Side.TheVariants.{Past, Future}
 use Rattle.tcc_clocks.proofs.Reaching.{same_session}
 use Rattle.tcc_clocks.proofs.UpTo.{one_same}
 
--- ---- others are meant, which in the session are the same
+-- ---- another set, which in the session is the same
 pub latest_same : (h : History) (P Q : ℕ → Type 0) (session latest : ℕ) → ((b : ℕ) → 0 < b → b < count h → owner h b ≡ session → P b ↔ Q b)
     → IsLatestOf h P session latest → IsLatestOf h Q session latest
 latest_same h P Q session latest same is = record {
@@ -32,7 +32,7 @@ entry_same Future h P Q session entry same is = λ b some below owned. (
   λ l. (same b some below owned).0 ((is b some below owned).1 l),
 )
 
--- ---- nobody is meant
+-- ---- the empty set
 pub entry_none : (side : Side) (h : History) (P : ℕ → Type 0) (session entry : ℕ) → entry ≡ empty_entry side (count h) → ((b : ℕ) → P b → ⊥)
     → IsEntry side h P session entry
 entry_none Past h P session entry empty nobody = record { attained = inl empty; greatest = λ b one. absurd (nobody b one.meant) }
@@ -80,8 +80,7 @@ pub entry_both : (side : Side) (h : History) (P Q : ℕ → Type 0) (session m n
 entry_both Past h P Q session m n one two = latest_both h P Q session m n one two
 entry_both Future h P Q session m n one two = first_both h P Q session m n one two
 
--- ---- one transaction alone, and others, among them what is on its side
--- of its own session
+-- ---- one transaction alone, and a set that has all on its side in its own session
 latest_own : (h : History) (Q : ℕ → Type 0) (session p n : ℕ) → 0 < p → p < count h → owner h p ≡ session → IsLatestOf h Q session n
     → IsLatestOf h (λ b. Q b ⊎ (b ≡ p)) session (max p n)
 latest_own h Q session p n more below mine is = latest_both h (λ b. b ≡ p) Q session p n alone is
@@ -115,7 +114,7 @@ entry_own : (side : Side) (h : History) → IsBySession h.entries → (Q : ℕ �
 entry_own Past h numbered Q session p n more below mine on is = latest_own h Q session p n more below mine is
 entry_own Future h numbered Q session p n more below mine on is = first_own h numbered Q session p n more below mine on is
 
--- of any
+-- for a transaction of any session
 pub entry_one : (side : Side) (h : History) → IsBySession h.entries → (owners : List ℕ) → AreOwners h owners → (Q : ℕ → Type 0) (from k p n : ℕ)
     → p < count h → ((b : ℕ) → IsOn side h p b → Q b) → IsEntry side h Q (from + k) n
     → IsEntry side h (λ b. Q b ⊎ (b ≡ p)) (from + k) (with_own side owners from p k n)
@@ -144,7 +143,7 @@ entry_one side h numbered owners are Q from k p n below on is = go (cases_Bool (
     go (inr f) =
         rw f (entry_same side h Q (λ b. Q b ⊎ (b ≡ p)) (from + k) n (λ b some low owned. (λ q. inl q, without f b some owned)) is)
 
--- ---- the same entry for what several mean
+-- ---- the same entry for several sets
 pub entry_any : (side : Side) (h : History) (Among : ℕ → Type 0) (P : ℕ → ℕ → Type 0) (session other entry : ℕ) → Among other
     → ((p : ℕ) → Among p → IsEntry side h (P p) session entry) → IsEntry side h (λ b. (p : ℕ) × Among p × P p b) session entry
 entry_any Past h Among P session other entry there each = record { attained = go (each other there).attained; greatest = λ b one. most b one one.meant }
@@ -160,7 +159,7 @@ entry_any Future h Among P session other entry there each = λ b some below owne
   λ l. (other, there, (each other there b some below owned).1 l),
 )
 
--- ---- what a clock holds of a session is reached from all of the session up to it
+-- ---- what a clock holds for a session is reached from all of the session up to it
 pub clock_reaches : (h : History) → IsBySession h.entries → (c session v b : ℕ) → IsLatestOf h (IsBefore h c) session v → 0 < b → b < count h
     → owner h b ≡ session → b ≤ v → IsReached h b c
 clock_reaches h numbered c session v b is some below owned up = go is.attained (cases_eq b v)

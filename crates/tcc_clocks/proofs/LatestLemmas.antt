@@ -31,7 +31,7 @@ module _ (h : History) (numbered : IsBySession h.entries) (from : ℕ) (order : 
   pub row_done : (row : List ℕ) → AreLatestOf h (IsUpTo h (Contains (parents h c))) from row → AreLatestOf h (IsBefore h c) from row
   row_done row made = entries_same Past h (IsUpTo h (Contains (parents h c))) (IsBefore h c) from row (up_to_parents h numbered c (below_in numbering i inside) all) made
 
--- ---- parents, by places of keys
+-- ---- parents, by the indices of keys
 second_of : (f : ℕ → List ℕ) (reads : List (ℕ × ℕ)) → map (λ (r : List ℕ × ℕ). r.1) (map (λ (r : ℕ × ℕ). (f r.0, r.1)) reads) ≡ map (λ (r : ℕ × ℕ). r.1) reads
 second_of f [] = refl
 second_of f (r ∷ reads) = ap (λ z. r.1 ∷ z) (second_of f reads)

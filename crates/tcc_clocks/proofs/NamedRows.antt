@@ -1,4 +1,4 @@
--- Rows that are held once, each named by its place, seen as one list of them.
+-- Rows that are held once, each named by its index, seen as one list of rows.
 use Rattle.std.proofs.Common.{◌≡◌, ◌<◌, ℕ, suc, List, [], ◌∷◌, ◌++◌, map, length, length-append, set, slice_index, refl, sym, ap, ◌∙◌, arith}
 use Rattle.std.specs.List.{All}
 use Rattle.std.proofs.lemmas.List.{get_or-map, map-set, get_or_append_left, get_or_at}
@@ -13,7 +13,7 @@ pub shared_row : (rows : List (List ℕ)) (which : List ℕ) (n other : ℕ) →
 shared_row rows which n other l =
     map-set (row_of rows) which n (slice_index which other) ∙ ap (λ (r : List ℕ). set (map (row_of rows) which) n r) (sym (named_row rows which other l))
 
--- one row more
+-- one more row
 still_named : (rows : List (List ℕ)) (row : List ℕ) (which : List ℕ) → All (λ n. n < length rows) which
     → map (row_of (rows ++ row ∷ [])) which ≡ map (row_of rows) which
 still_named rows row [] all = refl

@@ -27,7 +27,7 @@ marked_more needed i session is = go (cases_eq (session / WIDE) i) (cases_lt i (
 pub new_mark : (needed : List Bool) (session : ℕ) → session < length needed * WIDE → IsMarked (set needed (session / WIDE) true) session
 new_mark needed session room = get_or-set_same needed (session / WIDE) true false (omega (arith, room))
 
--- the blocks of one key more
+-- the blocks of one more key
 pub marked_key : (h : History) (owners : List ℕ) (all : List KeySources) (n : ℕ) (needed next : List Bool) → AreMarked h owners all n needed
     → ((s : ℕ) → IsMarked needed s → IsMarked next s)
     → ((a b : ℕ) → IsSourceOf (sources_at all n) a → Contains (writers h (key_at h n)) b → b ≢ a → IsMarked next (slice_index owners b))
@@ -51,12 +51,12 @@ owners_room h owners known sessions few size (some, room) b l = go (cases_eq b 0
         let below : b < count h = omega (arith, l, known.long) in
         omega (arith, known.each b low below, few b low below, room)
 
--- so many blocks have room for all sessions
+-- this many blocks have room for all sessions
 pub blocks_hold : (sessions blocks : ℕ) → div_ceil sessions 64 ≤ blocks → sessions ≤ blocks * WIDE
 blocks_hold sessions blocks enough = omega (arith, enough)
 
--- ---- from whom keys are read
--- one source more of the key at an index
+-- ---- the sources of keys
+-- one more source of the key at an index
 pub grown_by : (all : List KeySources) (i : ℕ) → i < length all → (v : KeySources) → ((a : ℕ) → IsSourceOf (sources_at all i) a → IsSourceOf v a)
     → HaveGrown all (set all i v)
 grown_by all i inside v kept k a is = go (cases_eq k i)
@@ -107,7 +107,7 @@ sources_all h c reads named within all are a x pair = named_read (from_map (λ r
         by_index read name (eqb-true read.1 a w.1)
         (from_map (λ (r : ℕ × ℕ). (key_at h r.0, r.1)) reads read (subst (λ (z : List (List ℕ × ℕ)). Contains z read) (sym named) w.0))
 
--- of one transaction more
+-- for one more transaction
 pub sources_next : (h : History) (n : ℕ) (old new : List KeySources) → HaveGrown old new → AreSourcesRead h n old → HasSourcesRead h n new
     → AreSourcesRead h (n + 1) new
 sources_next h n old new grown before here c l = go (cases_eq c n)
@@ -116,7 +116,7 @@ sources_next h n old new grown before here c l = go (cases_eq c n)
     go (inl same) = rw same here
     go (inr other) = λ a x pair. let w = before c (omega (arith, l, other)) a x pair in (w.0, w.1, w.2, grown w.0 a w.3)
 
--- ---- the blocks of all writers beside which there is another source
+-- ---- the blocks of all writers of a key that has another source
 pub all_needed : (h : History) (owners : List ℕ) → AreOwners h owners → (all : List KeySources) (needed : List Bool) → length all ≡ length (keys h)
     → AreSourcesRead h (count h) all → AreMarked h owners all (length all) needed → AreNeeded h needed
 all_needed h owners known all needed long read marked a b c x pair there some apart =

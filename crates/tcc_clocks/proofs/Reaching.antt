@@ -1,4 +1,4 @@
--- Who reaches whom in a numbered history: session pairs, parents, and walks by their last pair.
+-- Which transactions reach others in a numbered history: session pairs, parents, and walks by their last pair.
 use Rattle.std.proofs.Common.{◌≡◌, ◌≢◌, ◌<◌, ◌-◌, ◌==◌, ◌↔◌, ◌⊎◌, inl, inr, ℕ, zero, suc, Bool, true, false, ◌&&◌, ◌||◌, List, [], ◌∷◌, filter, nat_lt}
 use Rattle.std.proofs.Common.{refl, sym, ap, ◌∙◌, subst, arith}
 use Rattle.std.specs.List.{Contains}
@@ -52,7 +52,7 @@ session_from h a b from to (some, more, same, less) =
     (or_right _ _ (and_from _ _ (and_from _ _ (and_from _ _ (lt-ltb 0 a some) (lt-ltb 0 b more)) (eq-eqb (owner h a) (owner h b) same))
     (lt-ltb (place h a) (place h b) less)))
 
--- nothing stands before `init` in its session
+-- nothing is before `init` in its session
 pub none_before : (h : History) (a : ℕ) → IsSessionPair h a 0 → ⊥
 none_before h a p = go (session_kinds h a 0 p)
   where
@@ -61,7 +61,7 @@ none_before h a p = go (session_kinds h a 0 p)
     go (inr w) = omega (arith, w.1)
 
 module _ (h : History) (numbered : IsBySession h.entries) where
-  -- the numbers of a session rise
+  -- the numbers of a session ascend
   pub session_rises : (a b : ℕ) → IsSessionPair h a b → a < b
   session_rises a b p = go (session_kinds h a b p)
     where
@@ -74,12 +74,12 @@ module _ (h : History) (numbered : IsBySession h.entries) where
       go (inl w) = omega (arith, w.0, w.1)
       go (inr w) = in_order w (cases_order a b)
 
-  -- of one session, and in the order of their numbers
+  -- both are of one session, in the order of their numbers
   pub same_session : (b d : ℕ) → 0 < b → b < d → d < count h → owner h b ≡ owner h d → IsSessionPair h b d
   same_session b d some less below same =
       session_from h b d (omega (arith, less, below)) below (some, omega (arith, less), same, (numbered b d less below).1 same)
 
-  -- between a transaction and another of its session stand those of the session alone
+  -- between a transaction and another of its session there are only transactions of the session
   between : (a c : ℕ) → IsInSession h a c → a < c - 1 → c < count h → IsInSession h a (c - 1) × IsInSession h (c - 1) c
   between a c w less below =
       let low = (numbered a (c - 1) less (omega arith)).0 in
@@ -89,7 +89,7 @@ module _ (h : History) (numbered : IsBySession h.entries) where
       let some : 0 < c - 1 = omega (arith, w.0) in
       ((w.0, some, one, (numbered a (c - 1) less (omega arith)).1 one), (some, w.1, two, (numbered (c - 1) c (omega (arith, w.1)) below).1 two))
 
-  -- what stands before c in its session is the one right before it, or stands before that one
+  -- what is before c in its session is the one right before it, or is before that one
   pub nearest : (a c : ℕ) → IsSessionPair h a c → (a ≡ previous h c) ⊎ IsSessionPair h a (previous h c)
   nearest a c p = go (cases_Bool (session_pair h (c - 1) c)) (session_kinds h a c p)
     where
@@ -152,7 +152,7 @@ module _ (h : History) (numbered : IsBySession h.entries) where
       back (inl p) = session_join b (previous h c) c p (parent_before c some below)
       back (inr same) = subst (λ (x : ℕ). IsSessionPair h x c) (sym same) (parent_before c some below)
 
--- but for `init`, the parent is the number before
+-- unless it is `init`, the parent is the number before
 pub parent_or_init : (h : History) (c : ℕ) → previous h c ≢ 0 → previous h c ≡ c - 1
 parent_or_init h c other = go (cases_Bool (session_pair h (c - 1) c))
   where
@@ -259,7 +259,7 @@ last_pair h b c (s ∷ t ∷ steps) w = inr (go (last_pair h (step_to s) c (t �
 abbrev pub IsBehindBy : History → ℕ → ℕ → Type 0
 IsBehindBy h b c = IsCausalPair h b c ⊎ ((p : ℕ) × Contains (parents h c) p × IsReached h b p)
 
--- c is reached from where a causal pair leads into it, and from where its parents are reached
+-- c is reached from what a causal pair into it begins at, and from what reaches its parents
 pub reached_by : (h : History) → IsBySession h.entries → (b c : ℕ) → c < count h → HasSourcesAt h c → IsBehindBy h b c ↔ IsReached h b c
 reached_by h numbered b c below all = (there, λ w. back (last_pair h b c w.0 w.1))
   where

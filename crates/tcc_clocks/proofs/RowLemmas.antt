@@ -1,4 +1,4 @@
--- Rows of a block of sessions, and tables of them: of those meant so far, and of one more.
+-- Rows of a block of sessions, and tables of them: for a set of transactions, and for one more of them.
 use Rattle.std.proofs.Common.{◌≡◌, ◌<◌, ◌+◌, ◌↔◌, ◌⊎◌, inl, inr, ℕ, List, length, get_or, set, take, slice_index, ◌∙◌, subst, arith}
 use Rattle.std.specs.List.{All, Contains}
 use Rattle.std.proofs.lemmas.List.{get_or_default, length-set}
@@ -50,7 +50,7 @@ entries_more side h numbered owners known from numbers i p old mid new other ins
         (joined side (slice_index other k) (slice_index old k)) below (λ b is. inr is)
         (entry_both side h (IsOn side h p) (IsWith side h (Contains (take i numbers))) (from + k) (slice_index other k) (slice_index old k) (on.each k l) (are.each k l)))
 
--- all of these have the row of one of them, and none is of the block
+-- all of these have the row of one of them, and none is in the block
 pub entries_like : (side : Side) (h : History) (owners : List ℕ) → AreOwners h owners → (from : ℕ) (numbers : List ℕ) (table : List (List ℕ)) (other : ℕ)
     → Contains numbers other → ((k : ℕ) → k < length numbers → IsLike table owners from other (slice_index numbers k))
     → All (λ p. p < count h) numbers → All (λ p. AreEntries side h (IsOn side h p) from (row_of table p)) numbers

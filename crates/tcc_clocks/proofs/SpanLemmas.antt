@@ -1,4 +1,4 @@
--- Of writers, which rise, those of a block of sessions stand together.
+-- The writers of a block of sessions are adjacent among all writers of a key, since these ascend.
 use Rattle.std.proofs.Common.{◌≡◌, ◌<◌, ◌≤◌, ◌+◌, ◌-◌, ◌⊎◌, inl, inr, ℕ, zero, suc, true, false, List, [], ◌∷◌, ◌++◌, length, length-append, get_or, take, drop, refl, sym, subst, ◌∙◌, arith}
 use Rattle.std.specs.Prelude.{nat_lt}
 use Rattle.std.specs.List.{All, Contains}
@@ -49,7 +49,7 @@ counted xs bound end within point = record {
     go k l small (inr more) = absurd (false≢true (sym (point.1 k 0 more l) ∙ lt-ltb (get_or xs k 0) bound small))
 
 module _ (xs : List ℕ) (rising : IsNonDecreasing xs) (low high start end : ℕ) (first : IsCountBelow xs low start) (last : IsCountBelow xs high end) where
-  -- the index of one of those between
+  -- the index of a writer within the bounds
   index_of : (b : ℕ) → Contains xs b → low ≤ b → b < high → (k : ℕ) × (start ≤ k) × (k < end) × (k < length xs) × (get_or xs k 0 ≡ b)
   index_of b (k, l, e) above below = (k, go (cases_lt k start), last.others k l (omega (arith, at, below)), l, at)
     where
@@ -98,7 +98,7 @@ module _ (xs : List ℕ) (rising : IsNonDecreasing xs) (low high start end : ℕ
             let back : start + (w.0 - start) ≡ w.0 = omega (arith, w.1) in
             (w.0 - start, omega (arith, l, long), at (w.0 - start) b l ∙ (rw back (get_or_default xs w.0 b 0 w.3 ∙ w.4)))
 
--- those from where they begin to where they end
+-- the writers from the first index of the span to its end
 pub between_span : (xs : List ℕ) → IsNonDecreasing xs → (low high start end : ℕ) → IsSpan xs low high start end
     → IsBetween xs low high (take (end - start) (drop start xs))
 between_span xs rising low high start end span = go (cases_lt start end)

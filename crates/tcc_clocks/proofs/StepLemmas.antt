@@ -6,7 +6,7 @@ use Rattle.std.proofs.Math.Seq.{drop-append_seam}
 use Rattle.tcc_reads.specs.History.{History}
 use Rattle.tcc_clocks.specs.Parents.{parents, HasSourcesAt, AreParentsAt, AreSteps}
 
--- a step stays where numbers are added behind it
+-- a step stays when numbers are appended
 still_step : (h : History) (c : ℕ) (numbers more : List ℕ) (start end : ℕ) → AreParentsAt h c numbers start end → AreParentsAt h c (numbers ++ more) start end
 still_step h c numbers more start end is = record {
   order = is.order;
@@ -16,7 +16,7 @@ still_step h c numbers more start end is = record {
   sources = is.sources;
 }
 
--- the step of one transaction more
+-- the step of one more transaction
 last_step : (h : History) (c : ℕ) (numbers more : List ℕ) → more ≡ parents h c → HasSourcesAt h c → AreParentsAt h c (numbers ++ more) (length numbers) (length (numbers ++ more))
 last_step h c numbers more are sources = record {
   order = omega (arith, length-append numbers more);

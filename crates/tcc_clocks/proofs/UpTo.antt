@@ -1,4 +1,4 @@
--- What some transactions are, and what is on a side of them: one more, and the parents of one.
+-- A set of transactions together with what is on a side of them: one more, and the parents of one.
 use Rattle.std.proofs.Common.{◌≡◌, ◌<◌, ◌+◌, ◌↔◌, ◌⊎◌, inl, inr, ℕ, List, length, get_or, take, refl, sym, ◌∙◌}
 use Rattle.std.specs.List.{Contains}
 use Rattle.tcc_reads.specs.History.{History, IsBySession, count}
@@ -12,11 +12,11 @@ use Rattle.tcc_clocks.specs.private.Rows.{IsUpTo}
 use Rattle.tcc_clocks.specs.declared.side.Side.{Side}
 use Rattle.tcc_clocks.proofs.Reaching.{reached_by, parents_all, parent_pair, IsBehindBy}
 
--- others are meant, of which each is one of these and the other way round
+-- another set, which has the same transactions
 pub one_same : (h : History) (P Q : ℕ → Type 0) (session b : ℕ) → (P b → Q b) → IsOneOf h P session b → IsOneOf h Q session b
 one_same h P Q session b to is = record { committed = is.committed; below = is.below; owned = is.owned; meant = to is.meant }
 
--- what one more transaction is, and what is on its side
+-- one more transaction, and what is on its side
 pub with_more : (side : Side) (h : History) (numbers : List ℕ) (k p : ℕ) → k < length numbers → get_or numbers k 0 ≡ p → (b : ℕ)
     → ((IsWith side h (Contains (take k numbers)) b ⊎ IsOn side h p b) ⊎ (b ≡ p)) ↔ IsWith side h (Contains (take (k + 1) numbers)) b
 with_more side h numbers k p inside here b = (there, λ w. by w.0 w.2 (one_of_taken numbers k inside w.0 w.1))
@@ -32,7 +32,7 @@ with_more side h numbers k p inside here b = (there, λ w. by w.0 w.2 (one_of_ta
     by q (inl same) (inr is) = inr (same ∙ (sym is ∙ here))
     by q (inr on) (inr is) = let at : q ≡ p = sym is ∙ here in inl (inr (rw at at on))
 
--- what reaches c is what its parents are, and what reaches them
+-- what reaches c is one of its parents, or reaches one of them
 pub up_to_parents : (h : History) → IsBySession h.entries → (c : ℕ) → c < count h → HasSourcesAt h c → (b : ℕ)
     → IsUpTo h (Contains (parents h c)) b ↔ IsBefore h c b
 up_to_parents h numbered c below all b =

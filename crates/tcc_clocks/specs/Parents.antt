@@ -21,7 +21,7 @@ sources h c = map (λ read. read.1) (entry_at h c).reads
 abbrev pub HasSourcesAt : History → ℕ → Type 0
 HasSourcesAt h c = All (λ read. read.1 < count h) (entry_at h c).reads
 
--- the transactions of causal pairs into c from which all others of them reach c
+-- transactions with a causal pair into c; each other transaction with one reaches one of these
 abbrev pub parents : History → ℕ → List ℕ
 parents h c = previous_one h c ++ sources h c
 

@@ -1,6 +1,6 @@
-//! Vector clocks (Fidge, Mattern) of a block of 64 sessions: of each session the greatest number that reaches a transaction. They
-//! are worked out along a linear extension of the causal pairs: when a transaction's turn comes, those right before it have their
-//! rows, so that its own comes of theirs (`rows`). For N transactions and R reads that takes at most 64 (N + R) steps a block.
+//! Vector clocks (Fidge, Mattern) of a block of 64 sessions: for each session the greatest number that reaches a transaction.
+//! They are computed along a linear extension of the causal pairs. At a transaction's turn those right before it have their
+//! rows, from which its own follows (`rows`). For N transactions and R reads that takes at most 64 (N + R) steps a block.
 ghost use Rattle.std.specs.Prelude.{◌≡◌, ℕ, length, IfOk, OnOk};
 ghost use Rattle.tcc_reads.specs.History.{IsBySession, count};
 ghost use Rattle.tcc_graph.specs.Orders.{IsNumbering};
@@ -15,7 +15,7 @@ use std::alloc::{AllocError, Global};
 use tcc_graph::LargeGraph;
 use tcc_txn::NoMemory;
 
-/// How many sessions are looked at together.
+/// How many sessions are handled together.
 pub const WIDE: usize = 64;
 
 /// The index of each transaction's session.
@@ -33,8 +33,8 @@ pub fn owners(alloc: Global, graph: &LargeGraph) -> Result<Vec<u32>, AllocError>
     Ok(owners)
 }
 
-/// Of each transaction and each session of the block the greatest number of the session that reaches it, 0 for none; by an
-/// order in which causal pairs lead onward.
+/// For each transaction and each session of the block the greatest number of the session that reaches it, 0 for none. It goes
+/// along an order in which causal pairs lead onward.
 pub fn find_clocks(
     table: &mut SharedRows,
     graph: &LargeGraph,

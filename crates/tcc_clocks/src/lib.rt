@@ -1,7 +1,7 @@
-//! Vector clocks (Fidge, Mattern) of a history: of each transaction and each session the greatest number of a transaction of
-//! the session that reaches it. They are worked out along a linear extension of the causal pairs, for a block of 64 sessions at
-//! a time, and equal rows are held once. For N transactions, R reads and S sessions that takes at most 64 (N + R) steps a block,
-//! so S (N + R) in all, and fewer where rows are alike; and 64 N numbers at most, however many sessions there are.
+//! Vector clocks (Fidge, Mattern) of a history: for each transaction and each session the greatest number in the session that
+//! reaches the transaction. They are computed along a linear extension of the causal pairs, for a block of 64 sessions at a
+//! time, and equal rows are held once. For N transactions, R reads and S sessions that takes at most 64 (N + R) steps a block.
+//! So it takes S (N + R) in all, and fewer if rows are alike. It takes at most 64 N numbers, however many sessions there are.
 #![tactic(auto)]
 
 mod latest;

@@ -1,6 +1,6 @@
-//! Which blocks of 64 sessions have a writer that some read may set against another transaction: one of a key that is read from
-//! someone else. Nothing has to stand before another transaction, and nothing contradicts a read, for the others: they are passed
-//! over. For W writes and R reads that takes O(W + R) steps.
+//! Which blocks of 64 sessions have a writer that some read may set against another transaction: a writer of a key that is
+//! read from another one. The other blocks are passed over: none of their transactions has to be before another by a read, and
+//! none contradicts one. For W writes and R reads that takes O(W + R) steps.
 ghost use Rattle.std.specs.Prelude.{◌≡◌, ◌≢◌, ◌<◌, ◌≤◌, ◌*◌, ℕ, true, length, slice_index, All, Contains, IfOk, OnOk};
 ghost use Rattle.tcc_reads.specs.History.{count};
 ghost use Rattle.tcc_graph.specs.{Keys.keys};
@@ -13,19 +13,19 @@ use std::alloc::{AllocError, Global};
 use tcc_graph::LargeGraph;
 use tcc_txn::NoMemory;
 
-/// From whom a key is read.
+/// The transactions from which a key is read.
 #[derive(Clone, Copy)]
 pub enum KeySources {
-    /// From no transaction.
+    /// No transaction.
     Nobody,
-    /// From this transaction alone.
+    /// This transaction alone.
     One(u32),
-    /// From several.
+    /// Several transactions.
     Several,
 }
 
 impl KeySources {
-    /// With one more.
+    /// The sources with one more.
     pub fn with(self, source: u32) -> KeySources
         ensures new { IsSourceOf result source }
         ensures kept { (a : ℕ) → IsSourceOf self a → IsSourceOf result a }
@@ -49,7 +49,7 @@ impl KeySources {
     }
 }
 
-/// Marks the block of a transaction, where that is needed.
+/// Marks the block of a transaction, if that is needed.
 fn mark_where(needed: &mut [bool], owners: &[u32], b: u32, is_needed: bool)
     requires below { b < length owners.now }
     requires room { slice_index owners.now b < length needed.old * WIDE }
@@ -62,7 +62,7 @@ fn mark_where(needed: &mut [bool], owners: &[u32], b: u32, is_needed: bool)
     }
 }
 
-/// Marks the blocks of the writers of a key beside which there is another source.
+/// Marks the blocks of the writers of a key that has another source.
 fn mark_key(needed: &mut [bool], owners: &[u32], writers: &[u32], sources: KeySources)
     requires below { All (λ b. b < length owners.now) writers.now }
     requires room { (b : ℕ) → b < length owners.now → slice_index owners.now b < length needed.old * WIDE }
@@ -75,7 +75,7 @@ fn mark_key(needed: &mut [bool], owners: &[u32], writers: &[u32], sources: KeySo
     }
 }
 
-/// Marks the blocks of all writers beside which there is another source of their key.
+/// Marks the blocks of all writers of a key that has another source.
 fn mark_keys(
     needed: &mut [bool],
     graph: &LargeGraph,
@@ -97,7 +97,7 @@ fn mark_keys(
     Ok(())
 }
 
-/// Of each block of sessions whether it has a writer beside which there is another one of these sources of its key.
+/// For each block of sessions, whether it has a writer of a key that has another one of these sources.
 pub fn mark_blocks(
     alloc: Global,
     graph: &LargeGraph,
@@ -115,7 +115,7 @@ pub fn mark_blocks(
     Ok(needed)
 }
 
-/// Adds from whom a transaction reads each key.
+/// Adds the source of each read of a transaction.
 fn add_sources_read(sources: &mut [KeySources], graph: &LargeGraph, c: u32)
     requires below { c < count graph.now }
     requires long { length sources.old ≡ length (keys graph.now) }
@@ -129,7 +129,7 @@ fn add_sources_read(sources: &mut [KeySources], graph: &LargeGraph, c: u32)
     }
 }
 
-/// From whom each key is read.
+/// The sources of each key.
 fn sources_read(alloc: Global, graph: &LargeGraph) -> Result<Vec<KeySources>, AllocError>
     ensures long { IfOk result (λ sources. length sources.items ≡ length (keys graph.now)) }
     ensures read { IfOk result (λ sources. AreSourcesRead graph.now (count graph.now) sources.items) }
@@ -141,7 +141,7 @@ fn sources_read(alloc: Global, graph: &LargeGraph) -> Result<Vec<KeySources>, Al
     Ok(sources)
 }
 
-/// Of each block of sessions whether it has a writer of a key that a transaction reads from another one.
+/// For each block of sessions, whether it has a writer of a key that a transaction reads from another one.
 pub fn needed_blocks(
     alloc: Global,
     graph: &LargeGraph,

@@ -44,7 +44,7 @@ pub fn parents_of(alloc: Global, graph: &LargeGraph, c: u32) -> Result<Vec<u32>,
     Ok(parents)
 }
 
-/// Puts the transactions right before this one into a list that is used again, by what stands right before each in its session.
+/// Puts the transactions right before this one into a list that is reused, by what is right before each in its session.
 pub fn find_parents(
     found: &mut Vec<u32>,
     graph: &LargeGraph,
@@ -63,7 +63,7 @@ pub fn find_parents(
     add_sources(found, graph, c)
 }
 
-/// The transactions right before each one of an order, in one list: where those of each position of the order begin and end.
+/// The transactions right before each one of an order, in one list, with the span of each position of the order.
 #[derive(Drop)]
 pub struct Steps {
     pub spans: Vec<(usize, usize)>,
@@ -93,7 +93,7 @@ pub fn steps_along(
     Ok(Steps { spans, numbers })
 }
 
-/// Of these numbers those from one index to before the other.
+/// The numbers from one index to before the other.
 pub fn between(numbers: &[u32], span: (usize, usize)) -> &[u32]
     requires { span.1 ≤ length numbers.now }
     ensures { result.now ≡ take (span.1 - span.0) (drop span.0 numbers.now) }

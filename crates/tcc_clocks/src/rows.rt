@@ -1,6 +1,6 @@
-//! The rows of vector clocks (Fidge, Mattern), one for each transaction and a block of 64 sessions, and for either side of it. The
-//! row of a transaction is that of those right beside it, joined, with these transactions themselves: 64 steps for each of them,
-//! and fewer where it shares their row (`sharing`).
+//! The rows of vector clocks (Fidge, Mattern), one for each transaction and a block of 64 sessions, for either side of the
+//! transaction. The row of a transaction is that of those right beside it, joined, with these transactions themselves. That
+//! takes 64 steps for each of them, and fewer if it shares their row (`sharing`).
 ghost use Rattle.std.specs.Prelude.{◌≡◌, ◌<◌, false, ℕ, max, min, List, length, set, slice_index, All, Contains, IfSome, OnOk};
 ghost use Rattle.tcc_reads.specs.History.{IsBySession, count};
 ghost use Rattle.tcc_graph.specs.Tables.{row_of};
@@ -47,7 +47,7 @@ fn join_each(side: Side, row: &mut [u32], other: &[u32])
     }
 }
 
-/// The entry of a transaction's session together with its own number, where the session is of the block.
+/// The entry of a transaction's session together with its own number, if the session is in the block.
 fn join_own(side: Side, row: &mut [u32], owners: &[u32], from: u32, p: u32)
     requires inside { p < length owners.now }
     ensures same { length row.new ≡ length row.old }
@@ -86,7 +86,7 @@ fn row_with(
     row
 }
 
-/// Whether a transaction is of a session of the block.
+/// Whether a transaction is in a session of the block.
 fn is_inside(owners: &[u32], from: u32, p: u32) -> bool
     requires { p < length owners.now }
     ensures { result ≡ false → IsOutside owners.now from p }
@@ -95,7 +95,7 @@ fn is_inside(owners: &[u32], from: u32, p: u32) -> bool
     p > 0 && owner >= from && ((owner - from) as usize) < WIDE
 }
 
-/// One of these transactions with whose row they all are known to be, where none of them is of the block.
+/// One of these transactions, if all are known to have its row, and none of them is in the block.
 pub fn like(table: &SharedRows, owners: &[u32], from: u32, numbers: &[u32]) -> Option<u32>
     requires inside { All (λ p. p < length owners.now) numbers.now }
     requires long { length table.now ≡ length owners.now }

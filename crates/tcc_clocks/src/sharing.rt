@@ -1,6 +1,7 @@
-//! Rows of numbers, one for each transaction, of which equal ones may be held once: a transaction has the index of its row, and
-//! rows only join at the end, so a table of N transactions has at most N + 1 rows of 64 numbers, mostly far fewer. Whether two
-//! transactions share a row is one comparison of indices: those that do are equal, the others needn't differ.
+//! Rows of numbers, one for each transaction, of which equal ones may be held once. A transaction has the index of its row,
+//! and new rows are only appended. So a table of N transactions has at most N + 1 rows of 64 numbers, and usually far fewer.
+//! Whether two transactions share a row is one comparison of indices. Transactions that share a row have equal rows; those
+//! that don't may have equal rows too.
 ghost use Rattle.std.specs.Prelude.{◌≡◌, ◌<◌, ℕ, true, length, set, All, IfOk, IfSome, OnOk};
 ghost use Rattle.tcc_graph.specs.Tables.{row_of};
 
@@ -31,18 +32,18 @@ impl Model for SharedRows {
 }
 
 impl SharedRows {
-    /// So many rows of zeros.
+    /// This many rows of zeros.
     pub fn new(alloc: Global, count: u32) -> Result<SharedRows, AllocError>
         ensures { IfOk result (λ t. length t ≡ count) }
     {
-        // room for a row of each, beside that of zeros: it is taken once, and none of it is touched before it is needed
+        // room for a row of each, beside that of zeros: it is allocated once, and none of it is touched before it is needed
         let mut rows = Vec::with_capacity(alloc, count as usize + 1)?;
         rows.push([0; WIDE])?;
         let which = vec![in alloc; 0; count as usize]?;
         Ok(SharedRows { rows, which })
     }
 
-    /// Makes rows of zeros of all; the room that they took is kept.
+    /// Makes all rows zeros, and keeps their memory.
     pub fn clear(&mut self)
         ensures { length self.new ≡ length self.old }
     {
@@ -97,8 +98,8 @@ impl SharedRows {
         Ok(())
     }
 
-    /// One of these transactions that has this row, of several the one whose row was put down first: so those who share more and
-    /// more of what they know come to share one row.
+    /// One of these transactions that has this row; if there are several, the one whose row was added first. So transactions
+    /// whose pasts become alike come to share one row.
     fn first_like(&self, row: &[u32], others: &[u32]) -> Option<u32>
         requires { All (λ p. p < length self.now) others.now }
         ensures inside { IfSome result (λ other. other < length self.now) }
@@ -116,7 +117,7 @@ impl SharedRows {
         like
     }
 
-    /// Gives a transaction a row, that of one of these where it is the same.
+    /// Gives a transaction a row: that of one of these if it is the same.
     pub fn put_like(&mut self, number: u32, row: &Clock, others: &[u32]) -> Result<(), NoMemory>
         requires number { number < length self.old }
         requires others { All (λ p. p < length self.old) others.now }

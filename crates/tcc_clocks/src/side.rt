@@ -2,12 +2,12 @@
 ghost use Rattle.std.specs.Prelude.{◌≡◌};
 ghost use Rattle.tcc_clocks.specs.private.Rows.{joined, empty_entry};
 
-/// Which transactions a row tells of.
+/// Which transactions a row describes.
 #[derive(Clone, Copy)]
 pub enum Side {
-    /// Those that reach its own: of each session the greatest number.
+    /// Those that reach its own: for each session the greatest number.
     Past,
-    /// Those that its own reaches: of each session the least number.
+    /// Those that its own reaches: for each session the least number.
     Future,
 }
 
@@ -22,7 +22,7 @@ impl Side {
         }
     }
 
-    /// The entry of a session of which nobody is told, where there are so many transactions.
+    /// The entry of a session for the empty set, in a history of `count` transactions.
     pub(crate) fn empty(self, count: u32) -> u32
         ensures { result ≡ empty_entry self count }
     {

@@ -1,4 +1,4 @@
-//! Where the transactions of a block of sessions stand among all, and among the writers of each key: by halving.
+//! The ranges of the transactions of a block of sessions among all, and among the writers of each key, by binary search.
 ghost use Rattle.std.specs.Prelude.{◌<◌, ◌+◌, ℕ, length, OnOk};
 ghost use Rattle.std.specs.List.Sorted.{IsNonDecreasing};
 ghost use Rattle.tcc_graph.specs.Keys.{keys};
@@ -8,7 +8,7 @@ use crate::latest::WIDE;
 use tcc_graph::LargeGraph;
 use tcc_txn::NoMemory;
 
-/// How many of these, which rise, are less than `bound`.
+/// How many of these numbers, which ascend, are less than `bound`.
 fn count_below(numbers: &[u32], bound: usize) -> usize
     requires { IsNonDecreasing numbers.now }
     ensures { IsCountBelow numbers.now bound result }
@@ -16,7 +16,7 @@ fn count_below(numbers: &[u32], bound: usize) -> usize
     numbers.partition_point(|number| (*number as usize) < bound)
 }
 
-/// Where those of these numbers, which rise, from `low` to below `high` begin and end.
+/// Where those of these numbers, which ascend, from `low` to below `high` begin and end.
 pub fn span_of(numbers: &[u32], low: usize, high: usize) -> (usize, usize)
     requires { IsNonDecreasing numbers.now }
     ensures { IsSpan numbers.now low high result.0 result.1 }
@@ -44,7 +44,7 @@ pub fn find_spans(
     Ok(())
 }
 
-/// Where the transactions of a block of sessions stand: from the first number to below the second.
+/// The range of the transactions of a block of sessions: from the first number to below the second.
 pub fn block_bounds(owners: &[u32], from: u32) -> (usize, usize)
     requires { IsNonDecreasing owners.now }
     ensures { AreBounds owners.now from result.0 result.1 }

@@ -1,5 +1,5 @@
--- What a least cycle costs at most: it begins one link at most at each transaction, and none of its links takes a longer
--- walk than over all transactions once.
+-- What a least cycle costs at most: it begins at most one link at each transaction, and none of its links takes a longer walk than over all
+-- transactions once.
 use Rattle.std.proofs.Common.{ℕ, ◌≡◌, ◌<◌, ◌≤◌, ◌+◌, ◌*◌, ◌⊎◌, inl, inr, List, [], ◌∷◌, ◌++◌}
 use Rattle.std.proofs.Common.{length, All, length-append, append_assoc, refl, sym, ◌∙◌, subst}
 use Rattle.std.proofs.Common.{arith}
@@ -23,13 +23,13 @@ use Rattle.tcc_graph.proofs.Walking.{leads_append, leads_split, walk_below}
 use Rattle.tcc_graph.proofs.Linking.{derived_cost, some_cost, cost_cons, cost_around, lead_append, lead_split}
 use Rattle.tcc_core.proofs.Twice.{HasTwice, always, few_or_twice}
 
--- ---- a shortest walk begins one step at most at each transaction
+-- ---- a shortest walk begins at most one step at each transaction
 
 steps_below : (h : History) (a b : ℕ) (walk : List Step) → Leads h a b walk → AllByRecursion (λ s. step_from s < count h) walk
 steps_below h a b [] leads = tt
 steps_below h a b (s ∷ walk) leads = ((step_below h s leads.1).0, steps_below h (step_to s) b walk leads.2)
 
--- without what lies between two steps that begin at one number
+-- without what is between two steps that begin at one number
 pub shorter : (h : History) (a b : ℕ) (front : List Step) (one : Step) (middle : List Step) (other : Step) (rest : List Step)
     → step_from one ≡ step_from other → IsWalk h a b (front ++ one ∷ (middle ++ other ∷ rest)) → IsWalk h a b (front ++ other ∷ rest)
 shorter h a b front one middle other rest same is =
@@ -84,7 +84,7 @@ walk_in_link (link.Derived b a x c walk) n few = omega (arith, few, derived_cost
 -- ---- least cycles
 
 module _ (j : Judged) (s : ℕ) where
-  -- another link in the place of one
+  -- another link in place of one
   pub link_least : (front : List Link) (l : Link) (rest : List Link) → IsLeastCycle j s (front ++ l ∷ rest) → (o : Link) → link_from o ≡ link_from l
       → link_to o ≡ link_to l → IsLink j o → link_cost l ≤ link_cost o
   link_least front l rest least o from to is =
@@ -97,7 +97,7 @@ module _ (j : Judged) (s : ℕ) where
   pub link_there : (front : List Link) (l : Link) (rest : List Link) → IsLeastCycle j s (front ++ l ∷ rest) → IsLink j l
   link_there front l rest least = let (m, lead, on) = lead_split j s s front (l ∷ rest) least.cycle.1 in on.1
 
-  -- each of the links costs so much at most
+  -- each of the links costs at most this
   links_cost : count j.history ≤ MAX_COUNT → (done links : List Link) → IsLeastCycle j s (done ++ links) → cost links ≤ length links * MAX_LINK_COST
   links_cost few done [] least = omega arith
   links_cost few done (l ∷ links) least =
@@ -117,7 +117,7 @@ module _ (j : Judged) (s : ℕ) where
   starts_below a b [] lead = tt
   starts_below a b (l ∷ links) lead = ((link_below j l lead.1).0, starts_below (link_to l) b links lead.2)
 
-  -- what lies between two links that begin at one number is a cycle that costs less
+  -- what is between two links that begin at one number is a cycle that costs less
   pub part_cycle : (front : List Link) (one : Link) (middle : List Link) (other : Link) (rest : List Link) → link_from one ≡ link_from other
       → IsCycle j s (front ++ one ∷ (middle ++ other ∷ rest)) → IsCycle j (link_from one) (one ∷ middle)
   part_cycle front one middle other rest same cycle =

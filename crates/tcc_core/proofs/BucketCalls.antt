@@ -1,4 +1,4 @@
--- What the calls leave is a buckets again, and what a buckets says of its ends.
+-- After each call the tables are those of buckets again, and what that says of the ends of buckets.
 use Rattle.std.proofs.Common.{◌≡◌, ◌≢◌, ◌<◌, ◌≤◌, ◌+◌, ◌==◌, ◌⊎◌, ℕ, zero, suc, inl, inr, cond}
 use Rattle.std.proofs.Common.{List, length, set, length-set, slice_index, refl, sym, ◌∙◌, ap, arith}
 use Rattle.std.proofs.Common.{eq-eqb}
@@ -36,21 +36,21 @@ unfolding raised
 raised_off rank v top = record { here = rw (eq-eqb v v refl) refl; kept = λ x other. rw (ne_eqb x v other) refl }
 
 module _ {size : ℕ} {next prev bucket : List ℕ} (buckets : AreLinked size next prev bucket) where
-  -- the neighbours of what stands are indices of the tables
+  -- the neighbours of what is in a bucket are indices of the tables
   pub next_inside : (x : ℕ) → home bucket x < size → slice_index next x < length bucket + size
   next_inside x stands = home_inside bucket size (slice_index next x) (omega (arith, buckets.onward.same x stands))
 
   pub prev_inside : (x : ℕ) → home bucket x < size → slice_index prev x < length bucket + size
   prev_inside x stands = home_inside bucket size (slice_index prev x) (omega (arith, buckets.back.same x stands))
 
-  -- ---- what stands first in a bucket
+  -- ---- the first in a bucket
   first_home : (b : ℕ) → b < size → home bucket (slice_index next (length bucket + b)) ≡ b
   first_home b within = buckets.onward.same (length bucket + b) (omega (arith, home_end bucket b)) ∙ home_end bucket b
 
   pub first_stands : (b : ℕ) → b < size → slice_index next (length bucket + b) < length bucket → slice_index bucket (slice_index next (length bucket + b)) ≡ b
   first_stands b within below = sym (home_number bucket (slice_index next (length bucket + b)) below) ∙ first_home b within
 
-  -- from what stands, the ways onward lead to the end of the bucket
+  -- from what is in a bucket, the ways onward lead to the end of the bucket
   leads_back : (b k x : ℕ) → b < size → length bucket ≤ slice_index next (length bucket + b) → buckets.rank x < k → x < length bucket → home bucket x ≡ b → ⊥
   leads_back b zero x within empty low below at = absurd (omega arith)
   leads_back b (suc k) x within empty low below at =
@@ -62,7 +62,7 @@ module _ {size : ℕ} {next prev bucket : List ℕ} (buckets : AreLinked size ne
       y_home : home bucket y ≡ b
       y_home = buckets.onward.same x (omega arith) ∙ at
 
-      -- an end at y is the end of this bucket, and what stands before it is x; but it has itself there
+      -- an end at y is the end of this bucket, and what comes before it is x; but it has itself there
       end : length bucket ≤ y → ⊥
       end past =
           let e : ℕ = length bucket + b in
@@ -82,7 +82,7 @@ module _ {size : ℕ} {next prev bucket : List ℕ} (buckets : AreLinked size ne
   pub first_none : (b : ℕ) → b < size → length bucket ≤ slice_index next (length bucket + b) → (v : ℕ) → v < length bucket → slice_index bucket v ≢ b
   first_none b within empty v below at = leads_back b (suc (buckets.rank v)) v within empty (omega arith) below (home_number bucket v below ∙ at)
 
-  -- ---- a number more
+  -- ---- one more number
   pub ring_put : (v b : ℕ) → v < length bucket → size ≤ slice_index bucket v → b < size
       → let s = length bucket + b in let h = slice_index next s in
       AreLinked size (set (set next v h) s v) (set (set prev v s) h v) (set bucket v b)
@@ -134,7 +134,7 @@ module _ {size : ℕ} {next prev bucket : List ℕ} (buckets : AreLinked size ne
       prevs : IsTwoOff (slice_index prev) (slice_index (set (set prev v s) h v)) v s h v
       prevs = two_off prev v s h v (λ e. other h (omega (arith, h_home)) (sym e)) (omega (arith, buckets.prev_long)) (omega (arith, buckets.prev_long, h_inside))
 
-  -- ---- a number less
+  -- ---- one number fewer
   pub ring_take : (v b : ℕ) → v < length bucket → slice_index bucket v < size → size ≤ b
       → let p = slice_index prev v in let n = slice_index next v in
       AreLinked size (set next p n) (set prev n p) (set bucket v b)
@@ -179,7 +179,7 @@ module _ {size : ℕ} {next prev bucket : List ℕ} (buckets : AreLinked size ne
       prevs : IsOneOff (slice_index prev) (slice_index (set prev n p)) n p
       prevs = one_off prev n p (omega (arith, buckets.prev_long, next_inside v v_home))
 
--- ---- no number anywhere
+-- ---- no number in any bucket
 pub ring_empty : (size : ℕ) (next prev bucket : List ℕ) → length next ≡ length bucket + size → length prev ≡ length bucket + size
     → length bucket + size < 4294967295
     → ((v : ℕ) → v < length bucket → slice_index bucket v ≡ 4294967295)

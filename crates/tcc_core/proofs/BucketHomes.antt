@@ -1,4 +1,4 @@
--- The bucket in which an index of the tables stands.
+-- The bucket of an index of the tables.
 use Rattle.std.proofs.Common.{◌≡◌, ◌≢◌, ◌<◌, ◌≤◌, ◌+◌, ◌-◌, ◌⊎◌, ℕ, inl, inr, List, length, set, length-set, slice_index, refl, sym, ◌∙◌, arith}
 use Rattle.std.proofs.lemmas.Bool.{cases_lt, cond_below, cond_above}
 use Rattle.std.proofs.lemmas.List.{get_or-set_same, get_or-set_other}
@@ -15,7 +15,7 @@ home_past bucket x past = sym (cond_above x (length bucket) (slice_index bucket 
 pub home_end : (bucket : List ℕ) (b : ℕ) → home bucket (length bucket + b) ≡ b
 home_end bucket b = omega (arith, home_past bucket (length bucket + b) (omega arith))
 
--- what stands in a bucket at or past the numbers is the end of that bucket
+-- what is in a bucket at or past the numbers is the end of that bucket
 pub end_of : (bucket : List ℕ) (x : ℕ) → length bucket ≤ x → x ≡ length bucket + home bucket x
 end_of bucket x past = omega (arith, home_past bucket x past)
 

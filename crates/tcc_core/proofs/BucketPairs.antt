@@ -27,7 +27,7 @@ pub put_falls : {size v b s h : ℕ} {N P H R N' H' R' : ℕ → ℕ} (count : �
 put_falls count paired homes nexts ranks out within stands leads end falls =
     λ x low at. grind (arith, falls, paired.same, homes.kept, nexts.kept, ranks.kept)
 
--- v goes out from between p and n
+-- v is taken out from between p and n
 pub take_paired : {size v b p n : ℕ} {N P H N' P' H' : ℕ → ℕ} → IsPaired size N P H → IsPaired size P N H → IsOneOff H H' v b → IsOneOff N N' p n
     → IsOneOff P P' n p → H v < size → size ≤ b → P v ≡ p → N v ≡ n → n ≢ v
     → IsPaired size N' P' H'

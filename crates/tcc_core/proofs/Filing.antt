@@ -1,4 +1,4 @@
--- What is open stands in the bucket of its cost, and each bucket has transactions of one cost.
+-- What is open is in the bucket of its cost, and each bucket has transactions of one cost.
 use Rattle.std.proofs.Common.{◌≡◌, ◌≢◌, ◌<◌, ◌≤◌, ◌+◌, ◌*◌, ◌/◌, ◌%◌, ◌==◌, ◌⊎◌, ℕ, zero, suc, true, false, inl, inr, List}
 use Rattle.std.proofs.Common.{[], ◌∷◌, length, length-set, set, take, get_or, slice_index, max, All, Contains, refl, ap, sym, ◌∙◌, subst}
 use Rattle.std.proofs.Common.{arith}
@@ -79,7 +79,7 @@ module _ {floor most : ℕ} {costs buckets : List ℕ} (is : IsFiled floor most 
           (inr (record { some = omega (arith, above); above = omega (arith, above); below = omega (arith, most_is); at = refl }))
       go u below (inr other) = rw (costed.kept u other, ringed.kept u other) (higher u (is.each u below))
 
-  -- what is open stands in a bucket
+  -- what is open is in a bucket
   pub open_stands : (v : ℕ) → v < length costs → 0 < slice_index costs v → slice_index costs v < NO_WAY
       → IsOpen floor most (slice_index costs v) (slice_index buckets v)
   open_stands v within some reached = go (is.each v within)
@@ -92,7 +92,7 @@ module _ {floor most : ℕ} {costs buckets : List ℕ} (is : IsFiled floor most 
           none (inr past) = absurd (omega arith)
       go (inr open_at) = open_at
 
-  -- one of the nearest goes out
+  -- one of the nearest is taken out
   pub filed_settled : {v b : ℕ} {costs' buckets' : List ℕ} → IsNearest costs v → BUCKETS ≤ b → IsOneSet costs costs' v 0 → IsOneSet buckets buckets' v b
       → IsFiled (slice_index costs v) most costs' buckets'
   filed_settled {v} {b} {costs'} {buckets'} near out costed ringed = record {
@@ -111,7 +111,7 @@ module _ {floor most : ℕ} {costs buckets : List ℕ} (is : IsFiled floor most 
       go u below (inl same) = rw (same, costed.here, ringed.here) (inl (record { none = inr refl; out = out }))
       go u below (inr other) = rw (costed.kept u other, ringed.kept u other) (kept u below (is.each u below))
 
-  -- what was not reached stands in none
+  -- what was not reached is in none
   shut_out : (v : ℕ) → v < length costs → slice_index costs v ≡ NO_WAY → BUCKETS ≤ slice_index buckets v
   shut_out v within far = go (is.each v within)
     where
@@ -119,7 +119,7 @@ module _ {floor most : ℕ} {costs buckets : List ℕ} (is : IsFiled floor most 
       go (inl shut) = shut.out
       go (inr open_at) = absurd (omega (arith, open_at.below, is.few))
 
-  -- what stands in the bucket of a cost below which nothing is open is next
+  -- what is in the bucket of a cost below which nothing is open is next
   pub next_found : {cap : ℕ} (cost v : ℕ) → floor ≤ cost → cost ≤ most → cost ≤ cap → StandsIn buckets (cost % BUCKETS) v
       → ((u : ℕ) → u < length costs → 0 < slice_index costs u → cost ≤ slice_index costs u)
       → IsNext (record { costs = costs; floor = floor }) cap v
@@ -282,7 +282,7 @@ module _ {held : ℕ} {listed costs : List ℕ} (is : IsListed held listed costs
       let (k, low, at) = is.each v within some in
       (k, omega (arith, taken_long), taken_at k v low ∙ at)
 
-  -- all others stand nowhere
+  -- all others are in no bucket
   pub taken_or_far : {floor most : ℕ} {buckets : List ℕ} → IsFiled floor most costs buckets
       → (v : ℕ) → v < length costs → Contains (take held listed) v ⊎ IsFar costs buckets v
   taken_or_far {buckets = buckets} filed v within = go (tells (slice_index costs v))
@@ -291,9 +291,9 @@ module _ {held : ℕ} {listed costs : List ℕ} (is : IsListed held listed costs
       go (inl (test, far)) = inr (far, shut_out filed v within far)
       go (inr (test, other)) = inl (taken_each v within other)
 
--- ---- all ways away
+-- ---- all ways removed
 
--- those of a list are taken away, and what else there is was not reached
+-- those of a list are removed, and what else there is was not reached
 pub shut_all : (listed costs buckets costs' buckets' : List ℕ) → ((k : ℕ) → k < length listed → IsFar costs' buckets' (slice_index listed k))
     → ((u : ℕ) → u < length costs → ((slice_index costs' u ≡ slice_index costs u) × (slice_index buckets' u ≡ slice_index buckets u)) ⊎ IsFar costs' buckets' u)
     → ((v : ℕ) → v < length costs → Contains listed v ⊎ IsFar costs buckets v)

@@ -51,7 +51,7 @@ in_kept row v d u c out e =
 -- ---- what holds whatever the prices are
 
 module _ {search : Search} {floor : ℕ} (bounds : IsBounded search floor) where
-  -- what is open stands outside the row
+  -- what is open is outside the row
   open_outside : (v : ℕ) → 0 < slice_index search.costs v → in_row search.row v ≡ None
   open_outside v some = go (in_row search.row v) refl
     where
@@ -59,7 +59,7 @@ module _ {search : Search} {floor : ℕ} (bounds : IsBounded search floor) where
       go None e = e
       go (Some c) e = absurd (let settled = (bounds.joined v c e).2 in omega (arith, settled, some))
 
-  -- each transaction stands outside the row, or is settled
+  -- each transaction is outside the row, or is settled
   out_or_settled : (x : ℕ) → (in_row search.row x ≡ None) ⊎ (slice_index search.costs x ≡ 0)
   out_or_settled x = go (in_row search.row x) refl
     where
@@ -76,7 +76,7 @@ module _ {search : Search} {floor : ℕ} (bounds : IsBounded search floor) where
       go None e = absurd (some e)
       go (Some c) e = each v (omega (arith, bounds.long)) (λ far. omega (arith, (bounds.joined v c e).2, far))
 
-  -- where nothing that is open is within the cap, no upward route to anything outside the row is
+  -- where nothing that is open is within the cap, neither is an upward route to anything outside the row
   pub nothing_near : {j : Judged} {s : ℕ} → IsSearchOf j s search → (cap : ℕ) → cap ≤ search.limit → search.limit ≤ 18446744073709551615
       → IsPast cap search.costs → IsCutOff j s search.row (cap_of cap)
   nothing_near {j} {s} is cap known few past v links out route within =
@@ -90,7 +90,7 @@ module _ {search : Search} {floor : ℕ} (bounds : IsBounded search floor) where
 
 -- ---- what is offered from the one that joins
 
--- what is offered from v, where the cost is d: the cheapest links, as far as they are within the cap
+-- what is offered from v at cost d: the cheapest links, as far as they are within the cap
 pub record IsLedOn (t : Tables) (s v d cap : ℕ) (old new : List ℕ) : Type 0 where
   pub long : length new ≡ length old
   pub lower : (x : ℕ) → x < length old → x ≢ v → slice_index new x ≤ slice_index old x
@@ -106,7 +106,7 @@ pub record IsJoining (search : Search) (floor cap v : ℕ) : Type 0 where
   pub known : cap ≤ search.limit
   pub few : search.limit ≤ 18446744073709551615
 
--- what the search is after that
+-- the search after that
 abbrev pub after : Search → ℕ → List ℕ → ℕ → Search
 after search v new cap =
     record { start = search.start; row = set search.row v (Some (slice_index search.costs v)); costs = new; limit = cap }

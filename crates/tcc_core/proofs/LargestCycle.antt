@@ -1,5 +1,5 @@
--- What a least cycle costs at most by its sessions: it begins two links at most at transactions of one session, and one of
--- them costs a single step.
+-- What a least cycle costs at most by its sessions: it begins at most two links at transactions of one session, and one of them costs a
+-- single step.
 use Rattle.std.proofs.Common.{ℕ, ◌≡◌, ◌≢◌, ◌<◌, ◌≤◌, ◌+◌, ◌*◌, ◌==◌, ◌⊎◌, inl, inr, Bool, true, false, cond}
 use Rattle.std.proofs.Common.{if◌then◌else◌, List, [], ◌∷◌, ◌++◌, filter, length, append_assoc, refl, sym, ◌∙◌}
 use Rattle.std.proofs.Common.{subst, arith}
@@ -66,7 +66,7 @@ module _ (j : Judged) (placed : IsPlaced j.history MAX_SESSIONS) where
     session_route : (a b : ℕ) → IsSessionPair j.history a b → IsRoute j a b (link.Session a b ∷ [])
     session_route a b pair = (omega arith, (refl, pair, refl))
 
-    -- where the one stands before the other in their session, a single step leads there
+    -- where the one comes before the other in their session, a single step leads there
     cheap : IsSessionPair j.history (link_from one) (link_from other) → (middle ≡ []) × (link_cost one ≡ 1)
     cheap pair =
         let part : cost (one ∷ middle) ≤ cost (link.Session (link_from one) (link_from other) ∷ []) =
@@ -75,7 +75,7 @@ module _ (j : Judged) (placed : IsPlaced j.history MAX_SESSIONS) where
         let single : cost (link.Session (link_from one) (link_from other) ∷ []) ≡ 1 = one_cost (link.Session (link_from one) (link_from other)) in
         (no_links middle (omega (arith, part, single, cost_cons one middle, some_cost one)), omega (arith, part, single, cost_cons one middle, some_cost one))
 
-    -- where the one link begins before the other in their session, not both stay in it, or neither
+    -- where the one link begins before the other in their session, exactly one of the two stays in it
     ends_there : IsSessionPair j.history (link_from one) (link_from other) → 0 < link_from one
         → session_pair j.history (link_from one) (link_to one) ≡ session_pair j.history (link_from other) (link_to other) → ⊥
     ends_there pair some alike =
@@ -126,14 +126,14 @@ module _ (j : Judged) (placed : IsPlaced j.history MAX_SESSIONS) where
 
   -- ---- numbers of links
 
-  -- `init` apart, the session of its start, and whether it is followed there
+  -- apart from `init`, the session of its start, and whether it is followed there
   marked : Link → ℕ
   marked l = owner j.history (link_from l) + cond (session_pair j.history (link_from l) (link_to l)) MAX_SESSIONS 0
 
   link_number : Link → ℕ
   link_number l = if link_from l == 0 then 2 * MAX_SESSIONS else marked l
 
-  -- `init` apart, the session of its start
+  -- apart from `init`, the session of its start
   group : Link → ℕ
   group l = if link_from l == 0 then MAX_SESSIONS else owner j.history (link_from l)
 

@@ -1,4 +1,4 @@
--- The longest walk of a least cycle's link: it begins two steps at most at transactions of one session.
+-- The longest walk of a least cycle's link: it begins at most two steps at transactions of one session.
 use Rattle.std.proofs.Common.{ℕ, ◌≡◌, ◌≢◌, ◌<◌, ◌≤◌, ◌+◌, ◌*◌, ◌⊎◌, inl, inr, Bool, true, false, cond}
 use Rattle.std.proofs.Common.{List, [], ◌∷◌, ◌++◌, length, length-append, refl, sym, ◌∙◌, ap, subst}
 use Rattle.std.proofs.Common.{arith}
@@ -22,7 +22,7 @@ use Rattle.tcc_graph.proofs.Pairs.{pair_parts, initial_pair}
 use Rattle.tcc_core.proofs.SessionLemmas.{IsPlaced, pair_on, either_way}
 use Rattle.tcc_core.proofs.BoundLemmas.{shorter}
 
--- numbers for session and mark tell both
+-- numbers for session and mark determine both
 pub told_apart : (x y : ℕ) (p q : Bool) → x < MAX_SESSIONS → y < MAX_SESSIONS → x + cond p MAX_SESSIONS 0 ≡ y + cond q MAX_SESSIONS 0 → (x ≡ y) × (p ≡ q)
 told_apart x y true true l m e = (omega arith, refl)
 told_apart x y true false l m e = absurd (omega arith)
@@ -170,7 +170,7 @@ module _ (j : Judged) (placed : IsPlaced j.history MAX_SESSIONS) where
           go (inl pair) = forward pair
           go (inr pair) = back pair
 
-    -- the walk has two steps for each session at most
+    -- the walk has at most two steps for each session
     pub walk_short : length walk ≤ 2 * MAX_SESSIONS
     walk_short = from (cases_eq b 0)
       where

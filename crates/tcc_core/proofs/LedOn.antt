@@ -1,4 +1,5 @@
--- What is offered from a transaction by session pairs, to the end of the session, and by the other links is what all links lead to.
+-- The ways that are offered from a transaction, by session pairs to the end of the session and by the other links, are those by all its
+-- links.
 use Rattle.std.proofs.Common.{◌≡◌, ◌<◌, ◌≤◌, ◌+◌, ◌-◌, ℕ, ◌⊎◌, inl, inr, List, [], length, get_or, slice_index, Some, Contains, max, min, refl, sym, ap, ◌∙◌, subst, arith}
 use Rattle.std.proofs.lemmas.Bool.{cases_lt}
 use Rattle.std.proofs.lemmas.List.{get_or_past}
@@ -112,7 +113,7 @@ module _ {j : Judged} {t : Tables} (priced : IsPricesOf j t) (u : ℕ) (from : u
             let few = (is.each v class.cost).0 (inr (class, there, refl, mark)) in
             inr (up, class.cost, few.2, low, omega (arith, equal, same))
 
-  -- where the cap is as low as what was spent, no way is within it
+  -- where the cap is as low as the cost so far, no way is within it
   pub led_nowhere : (s d cap floor : ℕ) (costs : List ℕ) → cap ≤ d → length costs ≡ count j.history → IsOffered (IsWayOn t s u d cap) floor costs costs
   led_nowhere s d cap floor costs spent long =
       offered_none (IsWayOn t s u d cap) floor costs
@@ -129,7 +130,7 @@ module _ {j : Judged} {t : Tables} (priced : IsPricesOf j t) (u : ℕ) (from : u
     by_on v n m (inl same) = inl same
     by_on v n m (inr way) = inr (into_on v n way)
 
-    -- from where less than the floor was spent, session pairs lead to no way above the floor
+    -- from a transaction that costs less than the floor, session pairs lead to no way above the floor
     pub led_by_links : (old new : List ℕ) → length old ≡ count j.history → d < floor → IsOfferedBy t s u d left floor old new
         → IsOffered (IsWayOn t s u d cap) floor old new
     led_by_links old new long below is = record {

@@ -60,7 +60,7 @@ levels_settled costs levels v are within = record {
     each u n low (inl same) = rw same (omega (arith, get_or-set_same costs v 0 0 within))
     each u n low (inr other) = omega (arith, low, get_or-set_other costs v u 0 0 other)
 
--- nothing is said of what is met
+-- nothing is recorded as met
 pub levels_none : (costs : List ℕ) (levels : List Level) → length levels ≡ LEVELS → All (HasRoom (length costs)) levels → All (λ level. level.cost ≡ 0) levels
     → AreLevels costs levels
 levels_none costs levels long room none = record {
@@ -99,7 +99,7 @@ module _ (classes : List Class) (class : Class) (s d left floor : ℕ) (old mid 
       split v n up one mark cheap equal (inr same) =
           inr (up, rw same mark, rw same equal)
 
-  -- the ways by one more class are passed over, as dear or as known
+  -- the ways by one more class are passed over, as too dear or as known
   pub classes_passed : (left < class.cost) ⊎ (d + class.cost ≤ floor) → IsOffered (IsClassWay classes s d left) floor old mid
       → IsOffered (IsClassWay (classes ++ class ∷ []) s d left) floor old mid
   classes_passed out first =

@@ -53,7 +53,7 @@ joined_below (None ∷ row) v within out = omega (arith, joined_most row)
 joined_below (Some c ∷ row) zero within out = cc
 joined_below (Some c ∷ row) (suc v) within out = omega (arith, joined_below row v (omega arith) out)
 
--- ---- what a row has stands within it
+-- ---- what a row has is at an index below its length
 
 pub within_row : (row : List (Option ℕ)) (v c : ℕ) → in_row row v ≡ Some c → v < length row
 within_row row v c e = go (cases_lt v (length row))
@@ -64,7 +64,7 @@ within_row row v c e = go (cases_lt v (length row))
         let none : in_row row v ≡ None = get_or-eq_default row None past in
         cc
 
--- ---- a row out of which all was taken that it had
+-- ---- a row from which everything was taken
 
 pub emptied : (reached : List ℕ) (old new : List (Option ℕ)) → length new ≡ length old
     → ((k : ℕ) → k < length reached → in_row new (slice_index reached k) ≡ None)

@@ -1,4 +1,4 @@
--- Ways that are offered to all that a word marks, and to all that a row marks.
+-- Ways that are offered to everything that a word marks, and to everything that a row marks.
 use Rattle.std.proofs.Common.{◌≡◌, ◌<◌, ◌≤◌, ◌+◌, ◌-◌, ◌*◌, ◌/◌, ◌%◌, ◌^◌, ℕ, ◌⊎◌, inl, inr, true, List, length, set, slice_index}
 use Rattle.std.proofs.Common.{get_or-set_same, get_or-set_other, refl, sym, ◌∙◌, ap, arith, w64}
 use Rattle.std.specs.Prelude.{bit_and, bit_or}
@@ -185,7 +185,7 @@ module _ (marks : List ℕ) (s cost floor : ℕ) where
       (λ v n within (up, mark, equal) above. inl (up, omega (arith, marked_within marks v mark, whole), mark, equal))
       is
 
-  -- of the word in which s stands the bits from there upward, and then all words behind it
+  -- the bits from s upward of the word in which s is, and then all words after it
   pub row_whole : (old mid new : List ℕ)
       → IsOffered (IsWordWay (bit_and (slice_index marks (s / 64)) (2 ^ 64 - 2 ^ (s % 64))) (s / 64 * 64) cost) floor old mid
       → IsOffered (IsMarkWay marks ((s / 64 + 1) * 64) cost) floor mid new → IsOffered (IsMarkWay marks s cost) floor old new

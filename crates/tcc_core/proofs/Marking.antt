@@ -1,4 +1,4 @@
--- The marks of sessions: behind each all was reached by a session pair.
+-- The marks of sessions: after each, all were reached by a session pair.
 use Rattle.std.proofs.Common.{◌≡◌, ◌≢◌, ◌<◌, ◌≤◌, ◌+◌, ℕ, ◌⊎◌, inl, inr, List, length, set, length-set, slice_index, sym, ◌∙◌, arith}
 use Rattle.std.proofs.lemmas.Bool.{cases_lt, cases_eq}
 use Rattle.std.proofs.lemmas.List.{get_or-set_same, get_or-set_other}
@@ -35,7 +35,7 @@ marked_reached floor costs marks v is small within marked e = omega (arith, is.e
 abbrev pub IsLaterWay : ℕ → ℕ → ℕ → ℕ → ℕ → Type 0
 IsLaterWay floor from end v n = (from ≤ v) × (v < end) × (floor + 1 ≡ n)
 
--- ---- all marks away
+-- ---- all marks removed
 
 pub unmarked_all : (floor : ℕ) (costs marks marks' new : List ℕ) → IsMarked floor costs marks → floor < 2147483648 → length costs ≤ MAX_COUNT
     → length marks' ≡ length marks → length new ≡ length costs

@@ -22,7 +22,7 @@ lower_least floor old new v is within = go (is.each v within)
     go (inl same) = omega (arith, same)
     go (inr less) = less.1
 
--- what was 0 stays so, and nothing else becomes so
+-- what was 0 stays so, and nothing else becomes 0
 pub lower_some : (floor : ℕ) (old new : List ℕ) (v : ℕ) → IsLower floor old new → v < length old → 0 < slice_index old v → 0 < slice_index new v
 lower_some floor old new v is within some = go (is.each v within)
   where
@@ -71,7 +71,7 @@ offered_then First Then Both floor old mid new split one other first then = reco
     from v (inl same) (inl kept) = inl (same ∙ kept)
     from v (inl same) (inr is) = inr (one v (slice_index new v) (subst (λ (n : ℕ). First v n) (sym same) is))
 
--- offers of equal ways, told otherwise
+-- offers of equal ways, stated otherwise
 pub offered_same : (One Other : ℕ → ℕ → Type 0) (floor : ℕ) (old new : List ℕ) → ((v n : ℕ) → v < length old → One v n → Other v n)
     → ((v n : ℕ) → v < length old → Other v n → floor < n → One v n ⊎ (slice_index old v ≤ n)) → IsOffered One floor old new → IsOffered Other floor old new
 offered_same One Other floor old new into back is = record {
@@ -214,7 +214,7 @@ module _ {links : List (ℕ × ℕ)} {s d left k : ℕ} {old new : Queue} (is : 
       less v n i up low to cheap equal (inl same) (inl below) = let there : (at links k).0 ≡ v = rw same at to in absurd (omega (arith, there, below, up))
       less v n i up low to cheap equal (inl same) (inr dear) = let there : (at links k).1 ≤ left = rw same at cheap in absurd (omega (arith, there, dear))
 
-  -- each of those behind costs more
+  -- each of those after it costs more
   cheap_offered : k ≤ length links → ((i : ℕ) → k ≤ i → i < length links → left < (at links i).1)
       → IsOffered (IsWayBy links s d left) old.floor old.costs new.costs
   cheap_offered few dear =
@@ -240,7 +240,7 @@ module _ {links : List (ℕ × ℕ)} {s d left k : ℕ} {old new : Queue} (is : 
   pub all_offered : k ≤ length links → length links ≤ k → IsOffered (IsWayBy links s d left) old.floor old.costs new.costs
   all_offered few whole = cheap_offered few (λ i behind low. absurd (omega (arith, behind, low, whole)))
 
-  -- in ascending cost all those behind one that costs more do so
+  -- in ascending cost, all those after one that costs more do so
   pub cheapest_offered : AllPairs (λ (p q : ℕ × ℕ). p.1 ≤ q.1) links → k < length links → left < (at links k).1
       → IsOffered (IsWayBy links s d left) old.floor old.costs new.costs
   cheapest_offered ascending more dear = cheap_offered (omega (arith, more)) (λ i behind low. go i behind low (cases_eq i k))

@@ -10,7 +10,7 @@ use Rattle.tcc_reads.proofs.Rising.{by_session, each_filter, each_map, each_at, 
 use Rattle.tcc_graph.specs.Relations.{IsSessionPair, IsReadsPair}
 use Rattle.tcc_graph.proofs.Pairs.{lower_first, pair_parts}
 
--- no transaction is read by `init`; the others are of so many sessions, and places grow in a session by number
+-- no transaction is read by `init`; the others are of this many sessions, and places grow in a session by number
 pub record IsPlaced (h : History) (sessions : ℕ) : Type 0 where
   pub unread : (a : ℕ) (x : List ℕ) → IsReadsPair h a 0 x → ⊥
   pub owned : (n : ℕ) → 0 < n → n < count h → owner h n < sessions
@@ -49,7 +49,7 @@ module _ (h : History) where
       let two = pair_parts h b c q in
       lower_first h a c some one.from two.some two.to (one.same some ∙ two.same one.some) (omega (arith, one.lower some, two.lower one.some))
 
-  -- of two transactions of one session one stands before the other
+  -- of two transactions of one session one comes before the other
   pub either_way : (n : ℕ) → IsPlaced h n → (a b : ℕ) → 0 < a → a < count h → 0 < b → b < count h → a ≢ b → owner h a ≡ owner h b
       → IsSessionPair h a b ⊎ IsSessionPair h b a
   either_way n placed a b some below more within differ same = go (cases_order a b)

@@ -49,7 +49,7 @@ past_cap word None c p past = absurd (past tt)
 past_cap None (Some k) c p past = absurd p
 past_cap (Some b) (Some k) c p past = (b, refl, omega arith)
 
--- what is known of one worker's share
+-- what is known of the share of one worker
 record IsShareAt (j : Judged) (word : Option ℕ) (share : Share) : Type 0 where
   below_offers : All (λ c. IsNotAbove word (Some c)) share.offers
   below_sight : IsNotAbove word share.sight

@@ -24,8 +24,8 @@ use Rattle.tcc_derive.proofs.CycleLemmas.{turned}
 use Rattle.tcc_derive.proofs.UpwardLemmas.{begins_above, first_links}
 use Rattle.tcc_derive.proofs.PickedLemmas.{IsBack, ends_back, first_from_picked}
 
--- some links were picked: they lead on from `end` back to the start, what is left brings the search to `end`, and each
--- was the first that could be picked
+-- Some links were picked. They lead on from `end` back to the start, what is left is the cost of coming to `end`, and each was the first
+-- that could be picked.
 pub record IsUnderWay (j : Judged) (r : FirstReturn) (end : ℕ) (left : ℕ) (picked : List Link) : Type 0 where
   pub below : end < count j.history
   pub back : LinksLead j end r.start (reverse picked)

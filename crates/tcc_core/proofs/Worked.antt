@@ -56,7 +56,7 @@ capped-above = (refl, refl)
 capped-none : (capped None (Some 4) ≡ Some 4) × (capped None None ≡ None)
 capped-none = (refl, refl)
 
--- none stands above every number, and no number above none
+-- none is above every number, and no number above none
 not_above : IsNotAbove (Some 3) (Some 3) × IsNotAbove (Some 3) None × IsNotAbove None None
 not_above = (omega arith, tt, tt)
 
@@ -124,7 +124,7 @@ not_offered w = absurd (omega (arith, w.1.1))
 not_cut : IsStopped stale (worker [] (Some 3)) 0 empty (Cut (Some 2)) → ⊥
 not_cut w = omega (arith, w.0)
 
--- ---- from a/1 upward a/2 alone is reached, and nothing comes back: the way back is over `init`
+-- ---- from a/1 upward only a/2 is reached, and nothing comes back: the way back is over `init`
 
 no_read : (a c : ℕ) (key : List ℕ) → 1 ≤ a → a < 3 → c < 3 → Contains (reads_from stale_read a c) key → ⊥
 no_read zero c key some from to w = absurd (omega arith)

@@ -12,8 +12,8 @@ use Rattle.tcc_core.specs.declared.first_return.FirstReturn.{FirstReturn}
 abbrev pub come_to : FirstReturn → ℕ → Option ℕ
 come_to r v = slice_index_or r.row.now (v - r.start) None
 
--- a least cycle has this cost; the start is the lowest from which a route upward leads back at that cost; and the row has
--- the distances from there upward, capped at the cost
+-- A least cycle has this cost. The start is the lowest from which a route upward leads back at that cost. The row has the distances from
+-- there upward, capped at the cost.
 pub record IsFirstReturn (j : Judged) (r : FirstReturn) : Type 0 where
   pub least : (s : ℕ) × (links : List Link) × IsLeastCycle j s links × (cost links ≡ r.cost)
   pub back : IsDistance j r.start r.start r.cost

@@ -6,12 +6,12 @@ use Rattle.tcc_graph.specs.Links.{cost}
 use Rattle.tcc_graph.specs.Routes.{IsUpwardRoute, IsDistance}
 use Rattle.tcc_graph.specs.declared.link.Link.{Link}
 
--- what the row has of a transaction: its distance from the start; none where it stands outside
+-- what the row has for a transaction: its distance from the start, or none where it is outside
 abbrev pub in_row : List (Option ℕ) → ℕ → Option ℕ
 in_row row v = slice_index_or row v None
 
--- a value for each transaction: what the row has is the distance, and nothing outside is nearer than anything inside;
--- what is below the start stands outside, since no upward route leads there
+-- The row has a value for each transaction. What it has is the distance, and nothing outside is nearer than anything inside. What is below
+-- the start is outside, since no upward route leads there.
 pub record IsSearchRow (j : Judged) (s : ℕ) (row : List (Option ℕ)) : Type 0 where
   pub long : length row ≡ count j.history
   pub exact : (v : ℕ) (distance : ℕ) → in_row row v ≡ Some distance → IsDistance j s v distance
@@ -27,7 +27,7 @@ pub record IsEmptyRow (n : ℕ) (row : List (Option ℕ)) : Type 0 where
 abbrev pub cap_of : ℕ → Option ℕ
 cap_of cap = if cap == 18446744073709551615 then None else Some cap
 
--- a cost is at most the cap; without a cap every cost is
+-- a cost is at most the cap; without a cap every cost is within it
 abbrev pub IsWithin : Option ℕ → ℕ → Type 0
 IsWithin None c = Unit {0}
 IsWithin (Some cap) c = c ≤ cap
@@ -37,8 +37,7 @@ abbrev pub IsCutOff : Judged → ℕ → List (Option ℕ) → Option ℕ → Ty
 IsCutOff j s row cap =
     (v : ℕ) (links : List Link) → in_row row v ≡ None → IsUpwardRoute j s v links → IsWithin cap (cost links) → ⊥
 
--- v, one of the nearest of those outside the row, is within the cap and joins the row with its distance from s; what
--- else the row has stays
+-- v, one of the nearest outside the row, is within the cap and joins the row with its distance from s. What else the row has stays.
 pub record JoinsNearest (j : Judged) (s : ℕ) (cap : Option ℕ) (old : List (Option ℕ)) (new : List (Option ℕ)) (v : ℕ) (distance : ℕ) : Type 0 where
   pub outside : in_row old v ≡ None
   pub exact : IsDistance j s v distance

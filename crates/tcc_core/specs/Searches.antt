@@ -7,23 +7,23 @@ use Rattle.tcc_core.specs.Frontiers.{IsFrontier}
 use Rattle.tcc_core.specs.declared.settled.Settled.{Settled}
 use Rattle.tcc_core.specs.declared.settled.Settled.TheVariants as settled
 
--- a start, its row, of each transaction outside the row what the way there over the row costs, and the limit up to which
--- all ways are known; nothing below the start is ever looked at
+-- A start, its row, what the way over the row to each transaction outside it costs, and the limit up to which all ways are known. Nothing
+-- below the start is ever looked at.
 pub record Search : Type 0 where
   pub start : ℕ
   pub row : List (Option ℕ)
   pub costs : List ℕ
   pub limit : ℕ
 
--- a search from s of this history at this level, which begins so and stays so; what it says of the costs serves proofs alone
+-- a search from s of this history at this level, from its beginning on; what it says of the costs is for proofs only
 pub record IsSearchOf (j : Judged) (s : ℕ) (search : Search) : Type 0 where
   pub start : search.start ≡ s
   pub below : s < count j.history
   pub row : IsSearchRow j s search.row
   pub frontier : IsFrontier j s search.limit search.row search.costs
 
--- one more is settled: one of the nearest outside the row and within the cap joins it, and where it is the start itself
--- the search has returned with its distance; where there is none, the row stays, and the search is cut at the cap
+-- One more is settled: one of the nearest outside the row and within the cap joins it. Where it is the start itself, the search has
+-- returned with its distance. Where there is none, the row stays, and the search is cut at the cap.
 abbrev pub Settles : Judged → ℕ → ℕ → List (Option ℕ) → List (Option ℕ) → Settled → Type 0
 Settles j s cap old new settled.More = (v : ℕ) × (distance : ℕ) × (v ≢ s) × JoinsNearest j s (cap_of cap) old new v distance
 Settles j s cap old new (settled.Returned distance) = JoinsNearest j s (cap_of cap) old new s distance

@@ -1,4 +1,4 @@
--- What cycles cost that a walk makes, or a walk and one derived link back.
+-- The costs of cycles that a walk makes, or a walk and one derived link back.
 use Rattle.std.specs.Prelude.{ℕ, ◌≤◌, ◌+◌, List, length}
 use Rattle.tcc_graph.specs.Levels.{Judged, IsAllowedWalk}
 use Rattle.tcc_graph.specs.Links.{link_cost}
@@ -7,8 +7,8 @@ use Rattle.tcc_graph.specs.declared.link.Link.{Link}
 use Rattle.tcc_derive.specs.Prices.{IsDerived}
 use Rattle.tcc_core.specs.Shares.{IsCycleCost}
 
--- some cycle costs c; no allowed walk that ends where it begins has fewer steps, and no allowed walk from a to b costs
--- less together with a derived link from b to a
+-- Some cycle costs c. No allowed walk that ends where it begins has fewer steps. No allowed walk from a to b, together with a derived link
+-- from b to a, costs less.
 pub record IsSeed (j : Judged) (c : ℕ) : Type 0 where
   pub cycle : IsCycleCost j c
   pub around : (a : ℕ) (walk : List Step) → IsAllowedWalk j a a walk → c ≤ length walk

@@ -1,4 +1,4 @@
--- What workers bring back from their searches, and when it settles the least cost of a cycle.
+-- The results of workers' searches, and when they settle the least cost of a cycle.
 use Rattle.std.specs.Prelude.{ℕ, ◌<◌, ◌≤◌, ◌≡◌, ◌⊎◌, List, map, flat_map, All, Contains, Option, None, Some, nat_lt, if◌then◌else◌}
 use Rattle.tcc_reads.specs.History.{count}
 use Rattle.tcc_graph.specs.Levels.{Judged}
@@ -8,7 +8,7 @@ use Rattle.tcc_graph.specs.Routes.{IsUpwardRoute, IsCycle, IsDistance}
 use Rattle.tcc_graph.specs.declared.link.Link.{Link}
 use Rattle.tcc_core.specs.Rows.{in_row, IsSearchRow, IsCutOff}
 
--- how a search ended: it returned to its start at this cost, or was cut at a cap, of which none is above every number
+-- how a search ended: it returned to its start at this cost, or was cut at a cap, where none is above every number
 pub data Stop : Type 0 where
   Returned : ℕ → Stop
   Cut : Option ℕ → Stop
@@ -19,20 +19,20 @@ pub record Finished : Type 0 where
   pub row : List (Option ℕ)
   pub stop : Stop
 
--- what one worker brings back: its searches, the costs that it offered, and the least cost that it saw last
+-- the result of one worker: its searches, the costs that it offered, and the least cost that it saw last
 pub record Share : Type 0 where
   pub finished : List Finished
   pub offers : List ℕ
   pub sight : Option ℕ
 
--- b is not above k; none stands above every number
+-- b is not above k; none is above every number
 abbrev pub IsNotAbove : Option ℕ → Option ℕ → Type 0
 IsNotAbove b None = Unit {0}
 IsNotAbove None (Some k) = ⊥
 IsNotAbove (Some b) (Some k) = b ≤ k
 
--- the search returned to its start, and the worker offered the cost; or it was cut at no less than what the worker saw
--- last, without its start, and nothing outside its row is within that cap
+-- The search returned to its start, and the worker offered the cost. Or it was cut at no less than what the worker saw last, without its
+-- start, and nothing outside its row is within that cap.
 abbrev pub IsStopped : Judged → Share → ℕ → List (Option ℕ) → Stop → Type 0
 IsStopped j share s row (Returned c) = (in_row row s ≡ Some c) × Contains share.offers c
 IsStopped j share s row (Cut cap) = IsNotAbove share.sight cap × (in_row row s ≡ None) × IsCutOff j s row cap
@@ -51,17 +51,17 @@ abbrev pub IsNotBelowLeast : Judged → Option ℕ → Type 0
 IsNotBelowLeast j None = Unit {0}
 IsNotBelowLeast j (Some b) = (c : ℕ) × IsCycleCost j c × (c ≤ b)
 
--- the starts of the searches that the shares bring
+-- the starts of the searches in the shares
 abbrev pub starts_of : List Share → List ℕ
 starts_of shares = flat_map (λ share. map (λ f. f.start) share.finished) shares
 
--- a fact of each search that the shares bring
+-- a fact of each search in the shares
 abbrev pub EachFinished : List Share → (Finished → Type 0) → Type 0
 EachFinished shares P = All (λ share. All P share.finished) shares
 
 -- the shares settle at the word, a cost or none
 pub record SettleAt (j : Judged) (shares : List Share) (word : Option ℕ) : Type 0 where
-  -- each start stands in one share, once
+  -- each start is in one share, once
   pub once : IsNumbering (count j.history) (starts_of shares)
   pub finished : All (λ share. All (IsFinished j share) share.finished) shares
   pub offered : All (λ share. All (IsCycleCost j) share.offers) shares
@@ -80,8 +80,8 @@ capped None c = c
 capped (Some b) None = Some b
 capped (Some b) (Some c) = if nat_lt c b then Some c else Some b
 
--- the distance from s to v capped at the word where there is one: itself below the word, and the word where each upward
--- route costs as much or there is none
+-- The distance from s to v, capped at the word where there is one. It is the distance itself below the word, and the word where each upward
+-- route costs as much or there is none.
 abbrev pub IsCappedDistance : Judged → ℕ → ℕ → Option ℕ → Option ℕ → Type 0
 IsCappedDistance j s v None c = IsDistanceOrNone j s v c
 IsCappedDistance j s v (Some b) None = ⊥

@@ -1,5 +1,5 @@
-//! What a search does over its whole row: it empties it, in a step for each transaction that was reached, and relaxes again the
-//! links from all that has joined, where a cap has grown.
+//! What a search does with its whole row. It empties it, in a step for each transaction that was reached. And where a cap
+//! has grown, it relaxes again the links from all that has joined.
 ghost use Rattle.std.specs.Prelude.{◌≡◌, ◌≢◌, ◌<◌, ◌≤◌, ◌^◌, ℕ, Some, None, length, All, Contains};
 ghost use Rattle.tcc_graph.specs.Levels.{Judged};
 ghost use Rattle.tcc_derive.specs.Prices.{IsPricesOf};
@@ -10,7 +10,7 @@ ghost use Rattle.tcc_txn.specs.declared.limits.TheConstants.{MAX_COUNT};
 use crate::frontier::Frontier;
 use tcc_derive::Prices;
 
-/// Takes these transactions, which are all that it has, out of the row.
+/// Takes these transactions out of the row, which has no others.
 pub(crate) fn empty(reached: &[u32], row: &mut [Option<u32>])
     requires below { All (λ v. v < length row.old) reached.now }
     requires each { (v : ℕ) → v < length row.old → in_row row.old v ≢ None → Contains reached.now v }

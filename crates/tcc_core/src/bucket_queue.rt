@@ -1,9 +1,9 @@
 //! Dial's bucket queue (Dial, Shortest-path forest with topological ordering, CACM 12, 1969), the frontier of Dijkstra's algorithm
 //! where the greatest cost of an edge is small. To add, to move and to take out a transaction costs one step each.
 //!
-//! The buckets stand in a circle, one for each cost of a window as wide as the greatest cost of a link. Each bucket is a doubly
-//! linked list that closes over an end of its own: the end of bucket b is index `count + b` of the tables, and links to itself
-//! where the bucket is empty. So no call asks whether there is a neighbour.
+//! The buckets form a circle, one for each cost of a window as wide as the greatest cost of a link. Each bucket is a doubly
+//! linked list that closes over an end of its own. The end of bucket b is index `count + b` of the tables, and links to
+//! itself where the bucket is empty. So no call asks whether there is a neighbour.
 ghost use Rattle.std.specs.Prelude.{◌≡◌, ◌<◌, ◌≤◌, ◌+◌, ◌^◌, ℕ, length, slice_index, slice_set, IfSome, IfNone, IfOk, IsTrue, ◌↔◌};
 ghost use Rattle.tcc_core.specs.private.Buckets.{StandsIn, IsOutOf, AreEmptyBuckets};
 ghost use Rattle.tcc_core.specs.declared.bucket_queue.TheConstants.{BUCKETS, NOWHERE};
@@ -12,12 +12,12 @@ use std::alloc::{AllocError, Global};
 use std::marker::Model;
 use tcc_graph::MAX_LINK_COST;
 
-/// How many buckets there are: costs that no link parts stand in buckets of their own.
+/// How many buckets there are. Costs that differ by at most one link are in buckets of their own.
 pub(crate) const BUCKETS: u32 = MAX_LINK_COST as u32 + 1;
-/// What stands for no bucket.
+/// The bucket of a number that is in none.
 pub(crate) const NOWHERE: u32 = u32::MAX;
 
-/// Numbers that stand in buckets.
+/// Numbers that are in buckets.
 #[derive(Drop)]
 pub(crate) struct BucketQueue {
     count: u32,
@@ -49,7 +49,7 @@ fn close(table: &mut [u32], count: u32)
 }
 
 impl BucketQueue {
-    /// So many numbers, of which none stands anywhere.
+    /// `count` numbers, none of which is in a bucket.
     pub(crate) fn begin(alloc: Global, count: u32) -> Result<BucketQueue, AllocError>
         requires { count + BUCKETS < NOWHERE }
         ensures long { IfOk result (λ buckets. length buckets ≡ count) }
@@ -69,7 +69,7 @@ impl BucketQueue {
         })
     }
 
-    /// Puts a number that stands nowhere into a bucket.
+    /// Puts a number that is in no bucket into one.
     pub(crate) fn put(&mut self, v: u32, b: u32)
         requires within { v < length self.old }
         requires out { BUCKETS ≤ slice_index self.old v }
@@ -85,7 +85,7 @@ impl BucketQueue {
         self.bucket[v as usize] = b;
     }
 
-    /// Takes a number out of the bucket in which it stands.
+    /// Takes a number out of its bucket.
     pub(crate) fn take(&mut self, v: u32)
         requires within { v < length self.old }
         requires stands { slice_index self.old v < BUCKETS }
@@ -98,7 +98,7 @@ impl BucketQueue {
         self.bucket[v as usize] = NOWHERE;
     }
 
-    /// A number that stands in the bucket.
+    /// A number that is in the bucket.
     pub(crate) fn first(&self, b: u32) -> Option<u32>
         requires { b < BUCKETS }
         ensures some { IfSome result (λ v. StandsIn self.now b v) }
@@ -108,7 +108,7 @@ impl BucketQueue {
         if v < self.count { Some(v) } else { None }
     }
 
-    /// Whether a number stands in a bucket.
+    /// Whether a number is in a bucket.
     pub(crate) fn stands(&self, v: u32) -> bool
         requires { v < length self.now }
         ensures { IsTrue result ↔ (slice_index self.now v < BUCKETS) }

@@ -7,7 +7,7 @@ pub struct FirstReturn<'a> {
     pub start: u32,
     /// What a least cycle costs.
     pub cost: u32,
-    /// What it costs to come from the start to each transaction, over numbers from there upward, capped at `cost`: itself
-    /// first.
+    /// What it costs to come from the start to each transaction, over numbers from there upward, capped at `cost`. The
+    /// start itself is first.
     pub row: &'a [Option<u32>],
 }

@@ -1,6 +1,7 @@
-//! The frontier of a search: the transactions to which ways are known, open at what the cheapest costs. Session pairs lead on to
-//! whole ends of sessions, so of each session a mark is kept, from which on all were reached by one: what a session pair reaches
-//! later costs no less, and need not be offered again. So in a search the session pairs of N transactions take N steps in all.
+//! The frontier of a search: the transactions to which ways are known, open at the cost of the cheapest. Session pairs lead
+//! on to whole ends of sessions. So for each session a mark is kept, from which on all were reached by such a pair. What a
+//! session pair reaches later costs no less, and need not be offered again. So in a search the session pairs of N
+//! transactions take N steps in all.
 ghost use Rattle.std.specs.Prelude.{◌≡◌, ◌≢◌, ◌<◌, ◌≤◌, ◌+◌, ◌^◌, ◌⊎◌, ℕ, true, length, slice_index, slice_set, All, Contains, IfSome, IfNone, IfOk};
 ghost use Rattle.tcc_graph.specs.Levels.{Judged};
 ghost use Rattle.tcc_derive.specs.Prices.{IsPricesOf};
@@ -17,7 +18,7 @@ use std::alloc::{AllocError, Global};
 use std::marker::Model;
 use tcc_derive::Prices;
 
-/// The mark of a session of which none was reached by a session pair.
+/// The mark of a session in which none was reached by a session pair.
 const UNMARKED: u32 = u32::MAX;
 
 /// Transactions that are open at the cost of a way there.
@@ -26,7 +27,7 @@ pub(crate) struct Frontier {
     queue: Queue,
     /// For each session, at the index of its last transaction: from which transaction on all were reached by a session pair.
     marks: Vec<u32>,
-    /// What is met at some costs, those of links that stand in rows of marks.
+    /// What is met at some costs: those of links that are in rows of marks.
     levels: Vec<Level>,
 }
 
@@ -41,7 +42,7 @@ impl Model for Frontier {
     ghost invariant = { λ f. IsMarked f.queue.floor f.queue.costs f.marks.items × AreLevels f.queue.costs f.levels.items };
 }
 
-/// Takes the marks of these away.
+/// Removes the marks of these.
 fn unmark(reached: &[u32], marks: &mut [u32])
     requires { All (λ v. v < length marks.old) reached.now }
     ensures long { length marks.new ≡ length marks.old }
@@ -53,15 +54,15 @@ fn unmark(reached: &[u32], marks: &mut [u32])
     }
 }
 
-/// Whether the links that stand by classes of cost are all, other than session links, that cost at most so much.
+/// Whether the links that are kept by classes of cost are all that cost at most `left`, other than session links.
 fn are_classed(prices: &Prices, left: u32) -> bool
     ensures { result ≡ true → AreClassed prices.now left }
 {
     left <= prices.limit() as u32 || prices.is_whole()
 }
 
-/// Offers the ways on by links other than session links from a transaction, where so much was spent, to transactions from
-/// the start upward, as far as a link costs at most so much.
+/// Offers the ways on by links other than session links from a transaction at cost `so_far`. They lead to transactions from
+/// the start upward, by links that cost at most `left`.
 fn offer_others(
     queue: &mut Queue,
     levels: &mut [Level],
@@ -94,7 +95,7 @@ fn offer_others(
 }
 
 impl Frontier {
-    /// So many transactions, to none of which a way is known.
+    /// `count` transactions, to none of which a way is known.
     pub(crate) fn begin(alloc: Global, count: u32) -> Result<Frontier, AllocError>
         requires { count ≤ MAX_COUNT }
         ensures { IfOk result (IsBeginning count) }
@@ -109,8 +110,8 @@ impl Frontier {
         })
     }
 
-    /// Offers a way by a session pair, from where the floor was spent, to each of these transactions of a session. From the
-    /// mark of the session on all have one.
+    /// Offers a way by a session pair, from a transaction at the cost of the floor, to each of these transactions of a
+    /// session. From the mark of the session on all have one.
     fn reach_later(&mut self, from: u32, end: u32)
         requires some { 0 < end }
         requires within { end ≤ length self.old.costs }
@@ -127,8 +128,8 @@ impl Frontier {
         }
     }
 
-    /// Offers the ways on by links from a transaction, where no more than the floor was spent, as far as they are within the
-    /// cap. A session pair that costs no more than the floor was within the cap before.
+    /// Offers the ways on by links from a transaction at a cost of at most the floor, as far as they are within the cap. A
+    /// session pair that costs no more than the floor was within the cap before.
     pub(crate) fn lead_on(&mut self, prices: &Prices, start: u32, u: u32, so_far: u32, cap: u64)
         requires below { u < length prices.now.prices }
         requires long { length self.old.costs ≡ length prices.now.prices }
@@ -167,7 +168,7 @@ impl Frontier {
         self.queue.nearest(cap)
     }
 
-    /// Settles one of the nearest, and gives its cost, which is the floor from now on.
+    /// Settles one of the nearest, and returns its cost, which is the floor from now on.
     pub(crate) fn settle(&mut self, v: u32) -> u32
         requires { IsNearest self.old.costs v }
         ensures cost { result ≡ slice_index self.old.costs v }
@@ -187,7 +188,7 @@ impl Frontier {
         self.queue.reached()
     }
 
-    /// Takes all ways and marks away, in time proportional to what was reached.
+    /// Removes all ways and marks, in time proportional to what was reached.
     pub(crate) fn clear(&mut self)
         requires small { self.old.floor < 2 ^ 31 }
         requires few { length self.old.costs ≤ MAX_COUNT }

@@ -1,6 +1,6 @@
-//! Of some costs what is met at them, as rows of marks: so a way at such a cost is offered to each transaction once in a search,
-//! however many transactions have links there. What a row marks is open at no more than its cost. For N transactions an offer to
-//! a whole row takes N / 64 steps, and one for each transaction that is new there.
+//! What is met at some costs, as rows of marks. So a way at such a cost is offered to each transaction once in a search,
+//! however many transactions have links there. What a row marks is open at no more than its cost. For N transactions an
+//! offer to a whole row takes N / 64 steps, and one for each transaction that is new there.
 ghost use Rattle.std.specs.Prelude.{◌≡◌, ◌<◌, ◌≤◌, ◌+◌, ◌*◌, ◌^◌, ℕ, true, length, All, IfOk};
 ghost use Rattle.tcc_bits.specs.Bits.{is_marked, words_for};
 ghost use Rattle.tcc_core.specs.{private.Marked.IsMarkWay, private.Offers.IsOffered, declared.bucket_queue.TheConstants.BUCKETS, declared.levels.TheConstants.LEVELS};
@@ -13,18 +13,18 @@ use std::alloc::{AllocError, Global};
 use tcc_bits::words_for;
 use tcc_derive::Class;
 
-/// So many costs have a row at a time: no link that stands in a row of marks costs more, so those that are offered from one
-/// floor have a row each.
+/// How many costs have a row at one time. No link in a row of marks costs more than this, so the links that are offered
+/// from one floor have a row each.
 pub(crate) const LEVELS: usize = 16;
 
-/// What is met at a cost; at cost 0 nothing is said.
+/// What is met at a cost; cost 0 says nothing.
 #[derive(Drop)]
 pub(crate) struct Level {
     pub cost: u32,
     pub marks: Vec<u64>,
 }
 
-/// Takes all marks away.
+/// Clears all marks.
 fn wipe(marks: &mut [u64])
     ensures same { length marks.new ≡ length marks.old }
     ensures none { (v : ℕ) → is_marked marks.new v ≡ true → ⊥ }
@@ -34,7 +34,7 @@ fn wipe(marks: &mut [u64])
     }
 }
 
-/// Rows with room for so many transactions.
+/// Rows with room for `count` transactions.
 pub(crate) fn begin_levels(alloc: Global, count: u32) -> Result<Vec<Level>, AllocError>
     ensures room { IfOk result (λ levels. All (HasRoom count) levels.items) }
     ensures none { IfOk result (λ levels. All (λ level. level.cost ≡ 0) levels.items) }
@@ -48,7 +48,7 @@ pub(crate) fn begin_levels(alloc: Global, count: u32) -> Result<Vec<Level>, Allo
     Ok(levels)
 }
 
-/// From now on nothing is said of what is met.
+/// From now on nothing is recorded as met.
 pub(crate) fn forget(levels: &mut [Level])
     ensures same { length levels.new ≡ length levels.old }
     ensures room { (n : ℕ) → All (HasRoom n) levels.old → All (HasRoom n) levels.new }
@@ -59,7 +59,7 @@ pub(crate) fn forget(levels: &mut [Level])
     }
 }
 
-/// Offers a way at this cost to all from the start upward that the row marks, but those that are met at it.
+/// Offers a way at this cost to everything from the start upward that the row marks, except what is met at it.
 fn offer_at(queue: &mut Queue, level: &mut Level, marks: &[u64], start: u32, cost: u32)
     requires few { length queue.old.costs ≤ MAX_COUNT }
     requires level { IsLevel queue.old.costs level.old }
@@ -78,8 +78,8 @@ fn offer_at(queue: &mut Queue, level: &mut Level, marks: &[u64], start: u32, cos
     offer_marked(queue, &mut level.marks, marks, start, cost);
 }
 
-/// Offers the ways on by the links of these classes, from where so much was spent to transactions from the start upward, as
-/// far as a link costs at most so much.
+/// Offers the ways on by the links of these classes, from a transaction at cost `so_far`. They lead to transactions from
+/// the start upward, by links that cost at most `left`.
 pub(crate) fn offer_classes(
     queue: &mut Queue,
     levels: &mut [Level],

@@ -1,5 +1,5 @@
-//! One search for what each transaction's routes cost at least, the law by which many searches settle the least cycle, and the first of
-//! the least cycles, picked from the back by what they found.
+//! One search for the least cost of routes to each transaction, and the law by which many searches settle the least cycle. Also
+//! the first of the least cycles, picked from the back by what they found.
 #![tactic(auto)]
 
 mod again;

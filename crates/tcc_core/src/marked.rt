@@ -1,6 +1,6 @@
-//! Relaxation of many links of one cost, 64 in a word: ways that are offered to all that a row marks. Beside it stands a row of
-//! what is met at that cost, so that nothing is offered such a way twice: N / 64 steps for N transactions, and one for each that is
-//! new.
+//! Relaxation of many links of one cost, 64 in a word: ways that are offered to everything that a row marks. Beside it is a
+//! row of what is met at that cost, so that nothing is offered such a way twice. That takes N / 64 steps for N
+//! transactions, and one for each that is new.
 ghost use Rattle.std.specs.Prelude.{◌≡◌, ◌<◌, ◌≤◌, ◌+◌, ◌-◌, ◌*◌, ◌/◌, ◌%◌, ◌^◌, ℕ, true, length};
 ghost use Rattle.std.specs.Int.{bit_at};
 ghost use Rattle.tcc_core.specs.{private.Offers.IsOffered, declared.bucket_queue.TheConstants.BUCKETS};
@@ -20,7 +20,7 @@ fn from_bit(bit: u32) -> u64
     u64::MAX - ((1 << bit) - 1)
 }
 
-/// Offers a way at this cost to each number that the word marks; its lowest bit stands for `first`.
+/// Offers a way at this cost to each number that the word marks; its lowest bit is the number `first`.
 fn offer_word(queue: &mut Queue, word: u64, first: u32, cost: u32)
     requires within { (i : ℕ) → i < 64 → bit_at word i ≡ 1 → first + i < length queue.old.costs }
     requires few { first < 2 ^ 31 }
@@ -36,8 +36,8 @@ fn offer_word(queue: &mut Queue, word: u64, first: u32, cost: u32)
     }
 }
 
-/// Offers a way at this cost to each number that the word at an index of a row marks and that is not met yet. They are met from
-/// now on.
+/// Offers a way at this cost to each number that the word at an index of a row marks and that is not met yet. From then on
+/// they are met.
 fn offer_fresh(queue: &mut Queue, met: &mut [u64], word: u64, index: usize, cost: u32)
     requires index { index < length met.old }
     requires few { length met.old ≤ LARGE_COUNT }
@@ -64,8 +64,8 @@ fn offer_words(queue: &mut Queue, met: &mut [u64], marks: &[u64], from: usize, c
     }
 }
 
-/// Offers a way at this cost to each number from the start upward that the row marks and that is not met yet. They are met
-/// from now on.
+/// Offers a way at this cost to each number from the start upward that the row marks and that is not met yet. From then on
+/// they are met.
 pub(crate) fn offer_marked(queue: &mut Queue, met: &mut [u64], marks: &[u64], start: u32, cost: u32)
     requires { MayOfferMarked cost met.old marks.now queue.old }
     ensures { HasOffered (IsMarkWay marks.now start cost) cost met.old met.new queue.old queue.new }

@@ -1,6 +1,7 @@
-//! Path reconstruction from a row of distances (Dijkstra, A note on two problems in connexion with graphs, Numerische Mathematik 1,
-//! 1959): the links of the first least cycle, picked from the last backwards. What was picked is the end of the first least cycle, and
-//! what is left is the distance to where it begins. L links among N transactions take L N looks at a distance and at a cost.
+//! Path reconstruction from a row of distances (Dijkstra, A note on two problems in connexion with graphs, Numerische
+//! Mathematik 1, 1959). The links of the first least cycle are picked from the last backwards. What was picked is the end
+//! of the first least cycle, and what is left is the distance to where it begins. For L links among N transactions a
+//! distance and a cost are looked up L N times.
 ghost use Rattle.std.specs.Prelude.{◌≡◌, ◌<◌, ◌≤◌, ◌-◌, ℕ, length, IfOk, MatchOption};
 ghost use Rattle.tcc_reads.specs.History.{count};
 ghost use Rattle.tcc_graph.specs.{Links.cost, Ties.IsFirstCycle, declared.link.Link.Link, Levels.judged};
@@ -29,7 +30,7 @@ fn spent(back: &FirstReturn<'_>, transaction: u32) -> Option<u32>
     }
 }
 
-/// What it costs to come to `from`, if that and the cheapest link from there to `to` make up all that is left.
+/// What it costs to come to `from`, if that and the cheapest link from there to `to` together are all that is left.
 fn spent_before(
     back: &FirstReturn<'_>,
     prices: &Prices,
@@ -52,8 +53,8 @@ fn spent_before(
     }
 }
 
-/// The least number, from the start upward, from which a cheapest link to `to` makes up all that is left, and what it
-/// costs to come there.
+/// The least number, from the start upward, from which a cheapest link to `to` costs all that is left, and the cost of
+/// coming there.
 fn last_start(back: &FirstReturn<'_>, prices: &Prices, to: u32, left: u32) -> Option<(u32, u32)>
     requires long { length back.now.row.now ≡ length prices.now.prices - back.now.start }
     requires to { to < length prices.now.prices }
@@ -71,7 +72,7 @@ fn last_start(back: &FirstReturn<'_>, prices: &Prices, to: u32, left: u32) -> Op
     None
 }
 
-/// The first of the cheapest links from one transaction to another; none where there is none.
+/// The first of the cheapest links from one transaction to another, if there is one.
 fn first_link(
     alloc: Global,
     graph: &Graph,

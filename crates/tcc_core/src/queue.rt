@@ -1,6 +1,7 @@
-//! The priority queue of a search, over Dial's bucket queue: transactions that are open at a cost, and the nearest of them. The
-//! costs of those that are open lie in a window as wide as there are buckets, so each bucket has transactions of one cost. An offer
-//! takes one step; to find the nearest takes one for each cost that is passed over, at most the width of the window.
+//! The priority queue of a search, over Dial's bucket queue: transactions that are open at a cost, and the nearest of them.
+//! The costs of those that are open are in a window as wide as there are buckets, so each bucket has transactions of one
+//! cost. An offer is one step. Finding the nearest costs a step for each cost that is passed over, at most the width of
+//! the window.
 ghost use Rattle.std.specs.Prelude.{◌≡◌, ◌≢◌, ◌<◌, ◌≤◌, ◌+◌, ◌⊎◌, ℕ, length, slice_index, slice_set, All, Contains, IfSome, IfNone, IfOk};
 ghost use Rattle.tcc_core.specs.private.Queues.{IsBeginning, IsNearest, IsNext, IsPast, IsFar, IsFiled, offered};
 ghost use Rattle.tcc_core.specs.declared.bucket_queue.TheConstants.{BUCKETS};
@@ -11,7 +12,7 @@ use crate::bucket_queue::{BUCKETS, BucketQueue};
 use std::alloc::{AllocError, Global};
 use std::marker::Model;
 
-/// What the costs have where no way leads.
+/// The cost of a transaction to which no way leads.
 pub(crate) const NO_WAY: u32 = u32::MAX;
 
 /// Transactions that are open at a cost.
@@ -39,7 +40,7 @@ impl Model for Queue {
     ghost invariant = { λ q. IsFiled q.floor q.most q.costs.items q.buckets × IsListed q.held q.listed.items q.costs.items };
 }
 
-/// Takes each of these, which are all that were reached, out of its bucket, and the ways to them away.
+/// Takes each of these, which are all that were reached, out of its bucket, and removes the ways to them.
 fn shut(listed: &[u32], costs: &mut [u32], buckets: &mut BucketQueue)
     requires long { length costs.old ≡ length buckets.old }
     requires below { All (λ v. v < length costs.old) listed.now }
@@ -57,7 +58,7 @@ fn shut(listed: &[u32], costs: &mut [u32], buckets: &mut BucketQueue)
 }
 
 impl Queue {
-    /// So many transactions, of which none is open.
+    /// `count` transactions, none of which is open.
     pub(crate) fn begin(alloc: Global, count: u32) -> Result<Queue, AllocError>
         requires { count ≤ MAX_COUNT }
         ensures { IfOk result (IsBeginning count) }
@@ -95,8 +96,8 @@ impl Queue {
         self.most = self.most.max(cost);
     }
 
-    /// Offers a way to a transaction: it is open at this cost from now on, if it was open at a greater one or not at all.
-    /// A way that costs no more than the floor, or more than a link beyond it, is passed over.
+    /// Offers a way to a transaction: it is open at this cost from now on, if it was open at a greater one or not at all. A
+    /// way that costs no more than the floor, or more than one link above it, is passed over.
     pub(crate) fn offer(&mut self, v: u32, cost: u32)
         requires { v < length self.old.costs }
         ensures { self.new ≡ record self.old { costs = offered self.old.floor self.old.costs v cost } }
@@ -136,7 +137,7 @@ impl Queue {
         self.costs[v as usize] = 0;
     }
 
-    /// Takes all ways away, in time proportional to what was reached.
+    /// Removes all ways, in time proportional to what was reached.
     pub(crate) fn clear(&mut self)
         ensures { IsBeginning (length self.old.costs) self.new }
     {

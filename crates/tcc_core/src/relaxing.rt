@@ -1,5 +1,5 @@
-//! Relaxation of links: ways that are offered to the transactions of a queue, many at a time. Behind each offer a transaction is
-//! open at the least cost that it was offered so far. A step for each link.
+//! Relaxation of links: ways that are offered to the transactions of a queue, many at a time. After each offer a
+//! transaction is open at the least cost that it was offered so far. It takes a step for each link.
 ghost use Rattle.std.specs.Prelude.{◌≡◌, ◌<◌, ◌≤◌, ◌+◌, length};
 ghost use Rattle.std.specs.List.{AllPairs};
 ghost use Rattle.tcc_core.specs.private.Offers.{IsOffered, IsWayBy, MayOffer};
@@ -7,7 +7,7 @@ ghost use Rattle.tcc_core.specs.declared.bucket_queue.TheConstants.{BUCKETS};
 
 use crate::queue::Queue;
 
-/// Offers a way at this cost to each of these transactions.
+/// Offers a way at this cost to each transaction from `from` to before `to`.
 pub(crate) fn offer_each(queue: &mut Queue, from: u32, to: u32, cost: u32)
     requires upward { from ≤ to }
     requires within { to ≤ length queue.old.costs }
@@ -20,8 +20,8 @@ pub(crate) fn offer_each(queue: &mut Queue, from: u32, to: u32, cost: u32)
     }
 }
 
-/// Offers the ways on by these links, from where so much was spent to transactions from the start upward, as far as a link
-/// costs at most so much. The links come in ascending cost: behind the first that costs more none is looked at.
+/// Offers the ways on by these links, from a transaction at cost `so_far`, to transactions from the start upward, as far as
+/// a link costs at most `left`. The links come in ascending cost: none is looked at after the first that costs more.
 pub(crate) fn offer_cheapest(
     queue: &mut Queue,
     links: &[(u16, u16)],
@@ -44,7 +44,7 @@ pub(crate) fn offer_cheapest(
     }
 }
 
-/// Offers the ways on by these links, as far as a link costs at most so much, whatever order they come in.
+/// Offers the ways on by these links, as far as a link costs at most `left`, whatever order they come in.
 pub(crate) fn offer_within(
     queue: &mut Queue,
     links: &[(u32, u32)],

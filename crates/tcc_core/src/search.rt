@@ -1,7 +1,7 @@
-//! Dijkstra's algorithm (Dijkstra, A note on two problems in connexion with graphs, Numerische Mathematik 1, 1959) from one start, over
-//! links as edges and their costs as weights. The frontier is Dial's bucket queue (`bucket_queue`). What joined the row has its
-//! distance, and nothing outside it is nearer. A session pair leads on to a whole suffix of a session, of which each transaction is
-//! offered once, so a search takes some N + L steps for N transactions and L other links.
+//! Dijkstra's algorithm (Dijkstra, A note on two problems in connexion with graphs, Numerische Mathematik 1, 1959) from one
+//! start, with links as edges and their costs as weights. The frontier is Dial's bucket queue (`bucket_queue`). What joined
+//! the row has its distance, and nothing outside it is nearer. A session pair leads on to a whole suffix of a session, in
+//! which each transaction is offered once. So a search takes some N + L steps for N transactions and L other links.
 ghost use Rattle.std.specs.Prelude.{◌≡◌, ◌<◌, ◌≤◌, ℕ, length, drop, IfOk};
 ghost use Rattle.tcc_graph.specs.Levels.{Judged};
 ghost use Rattle.tcc_derive.specs.Prices.{IsPricesOf};
@@ -22,7 +22,7 @@ pub struct Search {
     start: u32,
     row: Vec<Option<u32>>,
     frontier: Frontier,
-    /// All ways are known that cost at most this; `u64::MAX` is no limit. At the opening none is.
+    /// All ways are known that cost at most this; `u64::MAX` is no limit. At the opening no ways are known.
     limit: u64,
 }
 
@@ -59,8 +59,8 @@ impl Search {
         })
     }
 
-    /// Puts the search at the opening of another start, as `begin` does, whatever it was before. It takes no memory. The
-    /// prices are those that the search began with.
+    /// Resets the search to the opening of another start, as `begin` makes it, whatever it was before. It takes no memory.
+    /// The prices are those that the search began with.
     pub fn renew(&mut self, prices: &Prices, start: u32)
         requires start { start < length prices.now.prices }
         requires long { length self.old.row ≡ length prices.now.prices }
@@ -75,7 +75,7 @@ impl Search {
     }
 
     /// Takes one of the nearest transactions outside the row into it, if its distance is at most the cap. A cap of
-    /// `u64::MAX` is none. The prices are those that the search began with.
+    /// `u64::MAX` is no cap. The prices are those that the search began with.
     pub fn settle(&mut self, prices: &Prices, cap: u64) -> Settled
         requires { length self.old.row ≡ length prices.now.prices }
         ensures start { self.new.start ≡ self.old.start }
@@ -107,7 +107,8 @@ impl Search {
         self.limit = cap;
     }
 
-    /// What `settle` does where all ways that cost at most the cap are known. The start was led on from at the opening.
+    /// What `settle` does where all ways that cost at most the cap are known. The ways from the start were offered at the
+    /// opening.
     fn join_nearest(&mut self, prices: &Prices, cap: u64) -> Settled
         requires long { length self.old.row ≡ length prices.now.prices }
         requires known { cap ≤ self.old.limit }
@@ -131,7 +132,7 @@ impl Search {
         Settled::More
     }
 
-    /// The start, for those who settle one transaction after the other by hand.
+    /// The start, for callers that settle one transaction after the other by hand.
     pub fn start(&self) -> u32
         ensures value { result ≡ self.now.start }
         ensures below { result < length self.now.row }
@@ -140,7 +141,7 @@ impl Search {
     }
 
     /// The distance from the start to each transaction that has joined, none for those outside, from the start upward:
-    /// at index k stands that of transaction start + k.
+    /// index k has that of transaction start + k.
     pub fn row(&self) -> &[Option<u32>]
         ensures value { result.now ≡ drop self.now.start self.now.row }
         ensures few { length result.now ≤ MAX_COUNT }

@@ -1,6 +1,7 @@
-//! The seed of searches, an upper bound for branch and bound: what the least of the cycles costs that a walk makes, or a walk and
-//! one derived link back. The least over all pairs of transactions, N * N steps for N transactions, in blocks of rows so that a row
-//! of prices is read once for a block (loop tiling); what was gone through costs no less than the least so far.
+//! The seed of searches, an upper bound for branch and bound: the least cost of the cycles that a walk makes, or a walk and
+//! one derived link back. It is the least over all pairs of transactions, in N * N steps for N transactions. They are gone
+//! through in blocks of rows, so that a row of prices is read once for a block (loop tiling). What was gone through costs
+//! no less than the least so far.
 ghost use Rattle.std.specs.Prelude.{◌≡◌, ◌<◌, ◌≤◌, ℕ, length, IfSome, MatchOption};
 ghost use Rattle.tcc_graph.specs.Levels.{Judged};
 ghost use Rattle.tcc_near.specs.{WalkLengths.IsNearOf, declared.walk_lengths.TheConstants.NONE};
@@ -13,11 +14,11 @@ use crate::queue::NO_WAY;
 use tcc_derive::Prices;
 use tcc_near::{NONE, Near};
 
-/// So many rows of distances are read side by side, so that a row of prices is read once for all of them.
+/// How many rows of distances are read side by side, so that a row of prices is read once for all of them.
 const BLOCK: u32 = 32;
 
-/// What the cycle costs that goes from `a` to `b` by so many steps and back by a derived link at this price, or by the
-/// steps alone where they end at `a` itself; `NO_WAY` where there is none.
+/// The cost of the cycle that goes from `a` to `b` by `steps` steps and back by a derived link at this price. Where the
+/// steps end at `a` itself they alone are the cycle. It is `NO_WAY` where there is none.
 fn closing(steps: u16, price: u16, a: u32, b: u32) -> u32
     ensures { result ≡ closing steps price a b }
 {
@@ -32,7 +33,7 @@ fn closing(steps: u16, price: u16, a: u32, b: u32) -> u32
     }
 }
 
-/// The least such cost from each of these transactions to `b`.
+/// The least such cost from these transactions to `b`.
 fn least_to(near: &Near, prices: &Prices, from: u32, to: u32, b: u32) -> u32
     requires same { length near.now.rows ≡ length prices.now.prices }
     requires upward { from ≤ to }
@@ -48,7 +49,7 @@ fn least_to(near: &Near, prices: &Prices, from: u32, to: u32, b: u32) -> u32
     least
 }
 
-/// The least such cost from each of these transactions to any.
+/// The least such cost from these transactions to any transaction.
 fn least_from(near: &Near, prices: &Prices, from: u32, to: u32) -> u32
     requires same { length near.now.rows ≡ length prices.now.prices }
     requires upward { from ≤ to }
@@ -77,8 +78,8 @@ fn least_of_all(near: &Near, prices: &Prices) -> u32
     least
 }
 
-/// The least cost of a cycle that a walk makes, or a walk and one derived link back; none where there is no such cycle.
-/// It is the cost of a cycle, so that a search may begin with it, but some cycle of more derived links may cost less.
+/// The least cost of a cycle that a walk makes, or a walk and one derived link back; none where there is no such cycle. It
+/// is the cost of a cycle, so a search may begin with it, but some cycle of more derived links may cost less.
 pub fn seed(near: &Near, prices: &Prices) -> Option<u32>
     requires { (j : Judged) × IsNearOf j near.now × IsPricesOf j prices.now }
     ensures cycle { (j : Judged) → IsPricesOf j prices.now → IfSome result (IsCycleCost j) }

@@ -39,7 +39,7 @@ module _ (h : History) where
       subst (λ (ts : List Step). Leads h a c ts) (sym (reverse-append (s ∷ []) ss))
       (leads_append h a (step_from s) c (reverse ss) (s ∷ []) (leads_of_back a (step_from s) ss w.2) (refl, w.1, w.0))
 
-  -- one step more keeps the steps first
+  -- one more step keeps the steps first
   ahead_more : (b c v : ℕ) (taken others : List Step) (s : Step) (n : ℕ) → Ahead taken others → LeadsBack h v c taken → LeadsBack h b c others
       → length others ≡ length taken + (n + 1)
       → ((o : Step) (os : List Step) → LeadsBack h b v (o ∷ os) → length os ≡ n → IsUpTo s o) → Ahead (taken ++ s ∷ []) others
@@ -68,7 +68,7 @@ module _ (h : History) where
       let e' = rw (same, step_itself o) at e in
       ahead_cmp ss os ahead (omega (arith, long)) e'
 
--- what a level allows of walks goes by their lengths
+-- whether a level allows a walk depends on its length
 any_allowed : (level : Level) (walk other : List Step) → IsAllowed level walk → 1 < length walk → IsAllowed level other
 any_allowed level.Causal walk other is several = tt
 any_allowed level.Atomic walk other is several = let one : length walk ≡ 1 = is in absurd (omega arith)
@@ -117,7 +117,7 @@ module _ (j : Judged) (b top : ℕ) (steps : List ℕ) (exact : HasLengths j b t
   no_steps u [] long back = back
   no_steps u (o ∷ os) long back = absurd (omega (arith, long))
 
-  -- where a walk of several steps is the shortest, the level allows any
+  -- if a shortest walk has several steps, the level allows any walk
   several_allowed : (v n : ℕ) (other : List Step) → IsShortest j b v (n + 1) → 0 < n → IsAllowed j.level other
   several_allowed v n other shortest some = let walk = shortest.attained in any_allowed j.level walk.0 other walk.1.1 (omega (arith, walk.2))
 
@@ -127,7 +127,7 @@ module _ (j : Judged) (b top : ℕ) (steps : List ℕ) (exact : HasLengths j b t
   way_allowed v n o os shortest back long some =
       ((omega (arith, length-reverse os), leads_of_back j.history b (step_from o) os back.2), several_allowed v n (reverse os) shortest some)
 
-  -- and nothing shorter leads there
+  -- nothing shorter leads there
   way_shortest : (v n : ℕ) (o : Step) (os : List Step) → IsShortest j b v (n + 1) → LeadsBack j.history b v (o ∷ os) → length os ≡ n → 0 < n
       → IsShortest j b (step_from o) n
   way_shortest v n o os shortest back long some = record {

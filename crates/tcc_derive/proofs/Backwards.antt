@@ -1,5 +1,4 @@
--- Lists that are picked item by item: where no list goes on past another, and tied items are the same, the picked list is
--- the first.
+-- Lists that are picked item by item. If no list extends another, and tied items are equal, the picked list is the first.
 use Rattle.std.proofs.Common.{◌≡◌, ◌≢◌, List, [], ◌∷◌, ◌++◌, refl, sym, ap, append_assoc, append-nil, subst}
 use Rattle.std.specs.Cmp.{IsTotalOrder}
 use Rattle.std.specs.Cmp.Lexicographic.{slice_cmp}
@@ -8,11 +7,11 @@ use Rattle.std.specs.declared.cmp.Ordering.TheVariants.{Less, Equal, Greater}
 use Rattle.std.proofs.lemmas.Cmp.{tied_itself}
 
 module _ {X : Type 0} (cmp : X → X → Ordering) (S : List X → Type 0) where
-  -- the item comes after none that may stand in its place
+  -- the item comes after none that could be picked in its place
   abbrev pub IsPick : List X → X → Type 0
   IsPick done x = (y : X) (others : List X) → S (done ++ y ∷ others) → cmp x y ≢ Greater
 
-  -- after those done, each of the list was picked in turn
+  -- after those done, each item of the list was picked in turn
   abbrev pub Picks : List X → List X → Type 0
   Picks done [] = Unit {0}
   Picks done (x ∷ xs) = IsPick done x × Picks (done ++ x ∷ []) xs
@@ -25,7 +24,7 @@ module _ {X : Type 0} (cmp : X → X → Ordering) (S : List X → Type 0) where
   Picks-at done [] x after p = subst (λ (ds : List X). IsPick ds x) (sym (append-nil done)) p.0
   Picks-at done (b ∷ before) x after p = rw (← append_assoc done (b ∷ []) before) (Picks-at (done ++ b ∷ []) before x after p.1)
 
-  -- each item of the list is one that may be picked there
+  -- each item of the list is one that can be picked there
   pub Picks-from : (xs done : List X) → ((before : List X) (x : X) (after : List X) → xs ≡ before ++ x ∷ after → IsPick (done ++ before) x) → Picks done xs
   Picks-from [] done each = tt
   Picks-from (x ∷ xs) done each = (

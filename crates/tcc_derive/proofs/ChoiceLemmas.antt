@@ -34,7 +34,7 @@ abbrev pub IsBest : List ℕ → List ℕ → ℕ → Option ℕ → Type 0
 IsBest readers steps least None = (least ≡ NONE) × ((d : ℕ) → Contains readers d → get_or steps d 0 ≡ NONE)
 IsBest readers steps least (Some c) = (least ≡ get_or steps c 0) × IsNearest readers steps c
 
--- what stands before an index of an ascending list is below what stands there
+-- what comes before an index of an ascending list is below the item there
 earlier_below : (readers : List ℕ) (i r c : ℕ) → IsStrictlySortedBy nat_cmp readers → i < length readers → r ≡ get_or readers i r
     → Contains (take i readers) c → c < r
 earlier_below readers i r c sorted l is (j, m, e) =
@@ -115,7 +115,7 @@ pub reads_reader : (h : History) (a : ℕ) (x : List ℕ) (c : ℕ) → IsReadsP
 reads_reader h a x c (from, to, (k, l, e)) = in_filter (λ d. has_name (reads_from h a d) x) (numbers h) c (number_in h c to)
     (list_any_at (bytes_eq x) (reads_from h a c) k x l ((bytes_eq-Decides x (get_or (reads_from h a c) k x)).1 (sym e)))
 
--- b may contradict no read of a key that it does not write
+-- b contradicts no read of a key that it does not write
 pub writes_not : (h : History) (b a : ℕ) (x : List ℕ) (c : ℕ) → list_any (λ y. y == b) (writers h x) ≡ false → MayContradict h b a x c → ⊥
 writes_not h b a x c none (other, pair, writer) = false≢true (sym none ∙ number_found (writers h x) b (writer_listed h x a c b pair writer))
 
@@ -130,7 +130,7 @@ nearest_reader_of h steps b a x c other to writes nearest = record {
 
 -- ---- the key
 
--- among these keys
+-- the choice among these keys
 pub record IsChoiceAmong (h : History) (steps : List ℕ) (b : ℕ) (a : ℕ) (among : List (List ℕ)) (x : List ℕ) (c : ℕ) : Type 0 where
   pub there : Contains among x
   pub nearest : IsNearestReader h steps b a x c
@@ -144,7 +144,7 @@ IsBestChoice h steps b a among least (Some found) = (least ≡ get_or steps foun
 not_above_itself : (x : List ℕ) → name_cmp x x ≢ Greater
 not_above_itself x e = let tie : name_cmp x x ≡ Equal = tied_itself nat_list_cmp_total x in cc
 
--- what stands before an index among the keys comes before what stands there
+-- what comes before an index among the keys is before the key there
 earlier_key : (ks : List (List ℕ)) (i : ℕ) (y x : List ℕ) → IsStrictlySortedBy name_cmp ks → i < length ks → y ≡ get_or ks i y → Contains (take i ks) x
     → name_cmp x y ≢ Greater
 earlier_key ks i y x sorted l is (j, m, e) above =

@@ -1,4 +1,4 @@
--- Links parted into classes with rows of marks and a rest.
+-- Links split into classes with rows of marks, and a rest.
 use Rattle.std.proofs.Common.{◌≡◌, ◌<◌, ◌≤◌, ◌+◌, zero, suc, ◌==◌, ◌||◌, ◌⊎◌, ℕ, inl, inr, true, List, [], ◌∷◌, ◌++◌, length, map, get_or, filter, sym, ◌∙◌}
 use Rattle.std.proofs.Common.{ap, add-one, arith, subst}
 use Rattle.std.specs.Prelude.{All, Contains}
@@ -18,7 +18,7 @@ use Rattle.tcc_derive.specs.declared.by_class.Class.{Class}
 use Rattle.tcc_derive.specs.declared.by_class.ByClass.{ByClass}
 use Rattle.tcc_derive.proofs.ByCostLemmas.{cheap_below, append_pairs, from_row, out}
 
--- where links lead
+-- what links lead to
 abbrev pub ends_of : List (ℕ × ℕ) → List ℕ
 ends_of links = map (λ (p : ℕ × ℕ). p.0) links
 
@@ -38,7 +38,7 @@ from_end links v (k, l, e) =
     let cost : ℕ = (get_or links k (v, 0)).1 in
     (cost, subst (λ (n : ℕ). Contains links (n, cost)) at (Contains-get_or links k (v, 0) (omega (arith, l, ends_long links))))
 
--- one more mark, by the words that stood there
+-- one more mark, by the words that were there before
 pub marked_by : (new mid now : List ℕ) (m k : ℕ) → now ≡ mid → m ≡ k → ((b : ℕ) → is_marked new b ≡ (is_marked now b || (b == k)))
     → (b : ℕ) → is_marked new b ≡ (is_marked mid b || (b == m))
 marked_by new mid now m k e f is b = rw (f, ← e) (is b)
@@ -146,7 +146,7 @@ module _ (n first end k : ℕ) (others links : List (ℕ × ℕ)) (classes : Lis
       back v c (inl (inr h)) = inr h
       back v c (inr h) = inl (rw is (Contains-append_right rest links (v, c) h))
 
--- classes and the rest, up to the limit, have all links that are cheap
+-- classes and the rest, up to the limit, have all cheap links
 pub by_class_of : (j : Judged) (t : Tables) → IsPricesOf j t → (u n : ℕ) → u < count j.history → n ≡ count j.history → (links : ByClass)
     → ArePartedBelow n (u + 1) (end_of t u) (others_at t u) (t.limit + 1) links.classes.items links.rest → IsByClass t u links
 by_class_of j t is u n from size links parted = record {

@@ -27,7 +27,7 @@ use Rattle.tcc_graph.proofs.Linking.{some_cost, pair_link}
 pub link_of : (j : Judged) (u v : ℕ) (l : Link) → IsDerived j u v l → IsLinkOf j u v l
 link_of j u v l (x, c, walk, is, reason) = rw is (record { from = refl; to = refl; link = reason })
 
--- where a session pair leads, links cost 1
+-- from one to another of a session pair, links cost 1
 pub session_cost : (j : Judged) (u v : ℕ) → IsSessionPair j.history u v → (o : Option ℕ) → IsCost j u v o → o ≡ Some 1
 session_cost j u v pair None none = absurd (none (link.Session u v) (record { from = refl; to = refl; link = pair }))
 session_cost j u v pair (Some n) least =
@@ -36,7 +36,7 @@ session_cost j u v pair (Some n) least =
     let one : n ≡ 1 = omega (arith, low, some, least.attained.2) in
     ap Some one
 
--- where there is no causal pair, a link is derived
+-- if there is no causal pair, a link is derived
 derived_of : (j : Judged) (u v : ℕ) → causal_pair j.history u v ≡ false → (l : Link) → IsLinkOf j u v l → IsDerived j u v l
 derived_of j u v none (link.Session a b) w =
     let pair : IsSessionPair j.history u v = rw (w.from, w.to) at w.link in
@@ -55,12 +55,12 @@ cost_from_price j u v none (Some n) p = record {
   least = λ l w. p.least l (derived_of j u v none l w);
 }
 
--- what one step leads to is allowed at each level
+-- a walk of one step is allowed at each level
 allowed_one : (l : Level) (walk : List Step) → length walk ≡ 1 → IsAllowed l walk
 allowed_one level.Causal walk one = tt
 allowed_one level.Atomic walk one = one
 
--- the distance is 1 on the causal pairs alone
+-- the distance is 1 exactly on the causal pairs
 pub one_step_pair : (j : Judged) (near : NearTable) (u v : ℕ) → IsNearOf j near → u < count j.history → v < count j.history
     → (slice_index (row_of near.rows u) v == 1) ≡ causal_pair j.history u v
 one_step_pair j near u v is from to = go (causal_pair j.history u v) refl (read row v)

@@ -1,4 +1,4 @@
--- The fewest steps to readers, which level after level lowers.
+-- The fewest steps to readers, which one level after another lowers.
 use Rattle.std.proofs.Common.{◌≡◌, ◌≢◌, ◌<◌, ◌≤◌, ◌+◌, ◌||◌, ◌⊎◌, ℕ, inl, inr, Bool, true, false, List, [], length, get_or, set, take, min, slice_index}
 use Rattle.std.proofs.Common.{refl, sym, ◌∙◌, arith, subst}
 use Rattle.std.specs.Prelude.{All, Contains}
@@ -55,7 +55,7 @@ each_more A B distance p old mid new before inside is parts wider here = record 
         go (inr further) (inl e) = inl (let w = at_p in omega arith)
         go (inr further) (inr w) = inr (here, let e = at_p in let v = w.1 in omega arith)
 
--- no number, none that is lowered
+-- no number, so none that is lowered
 pub each_first : (distance : ℕ) (old : List ℕ) → LowersEach (Contains []) distance old old
 each_first distance old = each_none (Contains []) distance old nothing_in
 

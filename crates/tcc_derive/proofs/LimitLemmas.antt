@@ -23,7 +23,7 @@ all_next P xs i x within is so_far one = rw (take_at_read xs i x within).1 (All-
 pub all_end : {X : Type 0} (P : X → Type 0) (xs : List X) (i : ℕ) → length xs ≤ i → All P (take i xs) → All P xs
 all_end P xs i all so_far = subst (λ ys. All P ys) (take_all i xs all) so_far
 
--- the lesser of two numbers that are something, is it too
+-- if each of two numbers has a property, so has the lesser
 pub lesser : (P : ℕ → Type 0) (m n k : ℕ) → k ≡ min m n → P m → P n → P k
 lesser P m n k is one other = go (cases_lt n m)
   where
@@ -35,7 +35,7 @@ lesser P m n k is one other = go (cases_lt n m)
 pub there : (row : List ℕ) (a : ℕ) → slice_index row a ≢ NONE → least_in row a ≡ Some (slice_index row a)
 there row a some = rw (ne_eqb (slice_index row a) NONE some) refl
 
--- a walk and a link back, by what the rows have
+-- a walk and a link back, by the values of the rows
 pub back_by : (near : List (List ℕ)) (row : List ℕ) (a b d c n : ℕ) → a < length near → d ≡ slice_index (row_of near a) b → c ≡ slice_index row a
     → n ≡ min (d + c) NONE → IsBackOrNone near row b n
 back_by near row a b d c n inside walk link sum = go (cases_lt (d + c) NONE)
@@ -55,7 +55,7 @@ up_to_next P n below at b inside = go (cases_lt b n)
     go (inl before) = below b before
     go (inr behind) = subst P (omega (arith, behind, inside)) at
 
--- what a row has is no more than the number that is read of it
+-- a row has at most the number that is read from it
 pub at_most : (row : List ℕ) (a d : ℕ) → least_in row a ≡ Some d → slice_index row a ≡ d
 at_most row a d = go (slice_index row a == NONE)
   where
@@ -70,7 +70,7 @@ not_none row a c = go (slice_index row a == NONE) refl
     go true e is none = none-some c is
     go false e is none = true≢false (sym (eq-eqb (slice_index row a) NONE none) ∙ e)
 
--- what is dearer than none of some ways back, is dearer than none of them where it costs less
+-- a bound that some ways back don't undercut can be lowered
 pub still_cheaper : (near : List (List ℕ)) (row : List ℕ) (b from to n k : ℕ) → k ≤ n → NoneCheaper near row b from to n → NoneCheaper near row b from to k
 still_cheaper near row b from to n k less all a low high = let one : n ≤ back_cost near row b a = all a low high in omega (arith, less, one)
 
@@ -107,19 +107,19 @@ closing_alone near prices b n inside is = go (cases_eq n NONE)
     go (inl none) = inl none
     go (inr some) = inr (inl (b, inside, rw is (there (row_of near b) b (λ e. some (is ∙ e)))))
 
--- what is none, or the cost of such a cycle
+-- a value that isn't none is the cost of such a cycle
 pub closing_some : (near prices : List (List ℕ)) (n : ℕ) → n ≢ NONE → IsClosingOrNone near prices n → IsClosing near prices n
 closing_some near prices n some (inl none) = absurd (some none)
 closing_some near prices n some (inr is) = is
 
--- ---- one more transaction that walks lead back from
+-- ---- one more transaction from which a walk leads back
 
 module _ (near prices : List (List ℕ)) (others : List (List (ℕ × ℕ))) (few at from to : ℕ) where
-  -- n is what such a cycle costs, or none; and of those before `end` with many others none makes a cheaper one
+  -- n is the cost of such a cycle, or none; and no cycle is cheaper by a transaction before `end` that has many others
   abbrev pub IsLeastOfMany : ℕ → ℕ → Type 0
   IsLeastOfMany end n = IsClosingOrNone near prices n × ((b : ℕ) → b < end → HasMany few others b → NoneCheaper near (row_of prices b) b from to n)
 
-  -- one with many
+  -- one that has many
   pub many_more : (least found n : ℕ) → at < length near → n ≡ min least found → IsBackOrNone near (row_of prices at) at found
       → NoneCheaper near (row_of prices at) at from to found → IsLeastOfMany at least → IsLeastOfMany (at + 1) n
   many_more least found n below is back none so_far = (
@@ -129,19 +129,19 @@ module _ (near prices : List (List ℕ)) (others : List (List (ℕ × ℕ))) (fe
         (λ many. still_cheaper near (row_of prices at) at from to found n (omega (arith, is)) none),
   )
 
-  -- one with few
+  -- one that has few
   pub many_passed : (least : ℕ) → (HasMany few others at → ⊥) → IsLeastOfMany at least → IsLeastOfMany (at + 1) least
   many_passed least few_of so_far =
       (so_far.0, up_to_next (λ b. HasMany few others b → NoneCheaper near (row_of prices b) b from to least) at so_far.1 (λ many. absurd (few_of many)))
 
--- so many blocks have room for all
+-- this many blocks have room for all
 pub blocks_cover : (n blocks : ℕ) → div_ceil n 32 ≤ blocks → n ≤ blocks * 32
 blocks_cover n blocks enough = omega (arith, enough)
 
--- ---- all ways back have been looked at
+-- ---- all ways back have been considered
 
--- n is no more than what the walk back to any transaction costs, nor than any way back to one with few others, nor than those to
--- one with many that come from below `to`
+-- n is at most the cost of the walk from any transaction back to itself. It is also at most the cost of any way back through a
+-- transaction with few others, and of those from below `to` through one with many.
 abbrev pub AreLooked : List (List ℕ) → List (List ℕ) → List (List (ℕ × ℕ)) → ℕ → ℕ → ℕ → Type 0
 AreLooked near prices others few to n =
     (b : ℕ) → b < length near → (n ≤ slice_index (row_of near b) b)
@@ -149,14 +149,14 @@ AreLooked near prices others few to n =
     × (HasMany few others b ⊎ NoOtherCheaper near (row_of prices b) b (row_of others b) n))
 
 module _ (near prices : List (List ℕ)) (others : List (List (ℕ × ℕ))) (few : ℕ) where
-  -- at first nothing but the walks back and the few
+  -- at first only the walks back and the transactions with few others
   pub looked_few : (n : ℕ)
       → ((b : ℕ) → b < length near → (n ≤ slice_index (row_of near b) b)
       × (HasMany few others b ⊎ NoOtherCheaper near (row_of prices b) b (row_of others b) n))
       → AreLooked near prices others few 0 n
   looked_few n all b inside = ((all b inside).0, ((λ many a low high. absurd (omega (arith, high))), (all b inside).1))
 
-  -- the next ones of the many
+  -- the next ones for those with many
   pub looked_more : (from next n m k : ℕ) → from ≤ next → k ≡ min n m
       → ((b : ℕ) → b < length near → HasMany few others b → NoneCheaper near (row_of prices b) b from (min next (length near)) m)
       → AreLooked near prices others few from n → AreLooked near prices others few next k
@@ -178,7 +178,7 @@ module _ (near prices : List (List ℕ)) (others : List (List (ℕ × ℕ))) (fe
   looked_all to n end all b inside =
       ((all b inside).0, ((λ many a low high. (all b inside).1.0 many a low (omega (arith, high, end))), (all b inside).1.1))
 
-  -- where all of them have been looked at, no cycle is cheaper
+  -- if all of them have been considered, no cycle is cheaper
   pub none_cheaper : (n : ℕ) → length prices ≡ length near → HasPriced prices others → AreLooked near prices others few (length near) n
       → (m : ℕ) → IsClosing near prices m → n ≤ m
   none_cheaper n long priced all m (inl (a, inside, walk)) =
@@ -196,7 +196,7 @@ module _ (near prices : List (List ℕ)) (others : List (List (ℕ × ℕ))) (fe
           let at = priced b a (omega (arith, long, inside)) (omega (arith, long, below)) (not_none (row_of prices b) a c link) in
           All-contains (λ (p : ℕ × ℕ). n ≤ back_cost near (row_of prices b) b p.0) (row_of others b) (a, at.0) cheap at.1
 
-  -- where n is a cost, and all ways back were looked at, the limit is n
+  -- if n is a cost, and all ways back were considered, the limit is n
   pub limit_of : (to n : ℕ) → length near ≤ to → length prices ≡ length near → HasPriced prices others → n ≢ NONE → IsClosingOrNone near prices n
       → AreLooked near prices others few to n → IsLimit near prices n
   limit_of to n end long priced some closing all =

@@ -19,7 +19,7 @@ module _ (j : Judged) (t : Tables) (is : IsPricesOf j t) (u : ℕ) (from : u < c
   has : HasOthers j t u (others_at t u)
   has = is.others u from
 
-  -- where a reason is, there is a price
+  -- if there is a reason, there is a price
   priced : (v : ℕ) → v < count j.history → (x : List ℕ) (c : ℕ) (walk : List Step) → IsReason j u v x c walk → (o : Option ℕ) → price_at t u v ≡ o
       → IsPrice j u v o → IsOther j t u v
   priced v to x c walk reason None e none = absurd (none (link.Derived u v x c walk) (x, c, walk, refl, reason))

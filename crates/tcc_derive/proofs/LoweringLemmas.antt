@@ -38,7 +38,7 @@ module _ (steps : List ℕ) where
         (second.from a);
   }
 
-  -- the reads of one key more
+  -- the reads of one more key
   pub lowers_next : (reads : List (List Read)) (written : List ℕ) (n : ℕ) (old mid new : List ℕ) → n < length written
       → Lowers (flat_map (bucket reads) (take n written)) steps old mid → Lowers (bucket reads (get_or written n 0)) steps mid new
       → Lowers (flat_map (bucket reads) (take (n + 1) written)) steps old new

@@ -1,4 +1,4 @@
--- What passes the test of others below a number are the others of a transaction.
+-- The numbers that pass the test of others are the others of a transaction.
 use Rattle.std.proofs.Common.{ℕ, zero, suc, ◌<◌, ◌≡◌, ◌≢◌, ◌≤◌, ◌==◌, ◌⊎◌, inl, inr, Bool, true, false, not, ◌&&◌, cond}
 use Rattle.std.proofs.Common.{if◌then◌else◌, length, List, [], ◌∷◌, ◌++◌, slice_index, get_or, Option, None, Some, refl, sym, ap, ◌∙◌}
 use Rattle.std.proofs.Common.{subst, arith, eq-eqb}
@@ -95,7 +95,7 @@ module _ (h : History) (u : ℕ) where
       go true so_far = rise (others_below h u prices costs n) n (slice_index costs n) (below prices costs n) so_far
       go false so_far = rw (append-nil (others_below h u prices costs n)) so_far
 
--- ---- what stands beside a number
+-- ---- what is beside a number in a list
 
 among_append : (xs ys : List (ℕ × ℕ)) (v : ℕ) → cost_among xs v ≡ None → cost_among (xs ++ ys) v ≡ cost_among ys v
 among_append [] ys v none = refl
@@ -113,14 +113,14 @@ among_before (p ∷ xs) ys v c some = go (p.0 == v) refl (λ rest. among_before 
     go true e f = rw e (rw e at some)
     go false e f = rw e (f (rw e at some))
 
--- where all numbers are lower
+-- if all numbers are lower
 among_lower : (xs : List (ℕ × ℕ)) (v : ℕ) → All (λ (p : ℕ × ℕ). p.0 < v) xs → cost_among xs v ≡ None
 among_lower [] v low = refl
 among_lower (p ∷ xs) v low =
     let less : p.0 < v = low 0 p (omega arith) in
     rw (ne_eqb p.0 v (λ e. absurd (omega (arith, e, less)))) (among_lower xs v (λ k d l. low (suc k) d (omega arith)))
 
--- what passes stands there with its cost, and nothing else stands there
+-- what passes is in the list with its cost, and nothing else is
 among_kept : (h : History) (u : ℕ) (prices costs : List ℕ) (n v : ℕ) → v < n → is_other h u prices costs v ≡ true
     → cost_among (others_below h u prices costs n) v ≡ Some (slice_index costs v)
 among_kept h u prices costs zero v low e = absurd (omega arith)
@@ -146,7 +146,7 @@ among_none h u prices costs (suc n) v e =
     last false f = refl
     last true f = rw (ne_eqb n v (λ same. absurd (false≢true (sym e ∙ subst (λ (w : ℕ). is_other h u prices costs w ≡ true) same f)))) refl
 
--- where v is not later, the cost is what stands among the others, and else it is 1
+-- if v is not later in the session, the cost is the one among the others
 pub cost_other : (t : Tables) (u v : ℕ) → (IsLater t u v → ⊥) → cost_at t u v ≡ cost_among (others_at t u) v
 unfolding cost_at
 cost_other t u v not_later = go (nat_lt u v && nat_lt v (end_of t u)) refl
@@ -196,14 +196,14 @@ module _ (j : Judged) (t : Tables) (u : ℕ) (from : u < count j.history) (price
           let first = first_item (reads_from j.history u v) w.1 in
           inl (first.0, (from, to, first.1))
 
-  -- a link leads there then
+  -- then a link leads there
   some_link : (v : ℕ) → v < count j.history → IsWhy v → (l : Link) × IsLinkOf j u v l
   some_link v to (inl (x, pair)) = (link.Reads u v x, record { from = refl; to = refl; link = pair })
   some_link v to (inr (n, p)) =
       let least : IsPrice j u v (Some n) = subst (λ (o : Option ℕ). IsPrice j u v o) p (priced.priced v to) in
       (least.attained.0, link_of j u v least.attained.0 least.attained.1)
 
-  -- what a link that is no session link leads to
+  -- what a link leads to that is not a session link
   by_link : (v : ℕ) → v < count j.history → (IsLater t u v → ⊥) → (l : Link) → IsLinkOf j u v l → IsWhy v
   by_link v to far (link.Session a b) w =
       let pair : IsSessionPair j.history u v = rw (w.from, w.to) at w.link in
@@ -290,7 +290,7 @@ numbers_rise xs pairs = IsNonDecreasingBy-from_default (λ (p : ℕ × ℕ). p.0
     go i j below (inl less) upto = let less' : (get_or xs i (0, 0)).0 < (get_or xs j (0, 0)).0 = pairs i j (0, 0) less below in omega arith
     go i j below (inr more) upto = let same : i ≡ j = omega (arith, more, upto) in rw same (omega arith)
 
--- what stands at some index
+-- the number at some index
 pub among_found : (xs : List (ℕ × ℕ)) (k v c : ℕ) → AllPairs (λ (p q : ℕ × ℕ). p.0 < q.0) xs → k < length xs → get_or xs k (0, 0) ≡ (v, c)
     → cost_among xs v ≡ Some c
 among_found [] k v c pairs inside is = absurd (omega arith)
@@ -304,7 +304,7 @@ among_found (p ∷ xs) (suc k) v c pairs inside is =
     rw (ne_eqb p.0 v (λ e. absurd (omega (arith, e, less, number))))
     (among_found xs k v c (λ i m d l n. pairs (suc i) (suc m) d (omega arith) (omega arith)) (omega arith) is)
 
--- where no index has the number
+-- if no index has the number
 pub among_absent : (xs : List (ℕ × ℕ)) (v : ℕ) → ((i : ℕ) → i < length xs → (get_or xs i (0, 0)).0 ≢ v) → cost_among xs v ≡ None
 among_absent [] v none = refl
 among_absent (p ∷ xs) v none = rw (ne_eqb p.0 v (none 0 (omega arith))) (among_absent xs v (λ i l. none (suc i) (omega arith)))

@@ -25,7 +25,7 @@ IsBack j s links = IsLeastCycle j s (reverse links)
 pub back_of : (j : Judged) (s : ℕ) (links : List Link) → IsLeastCycle j s links → IsBack j s (reverse links)
 back_of j s links is = rw reverse-reverse is
 
--- the links that stand before these, from the last backwards
+-- the links before these, from the last backwards
 pub ends_back : (j : Judged) (s : ℕ) (front : List Link) (l : Link) (picked : List Link) → IsLeastCycle j s (front ++ l ∷ picked)
     → IsBack j s (reverse picked ++ l ∷ reverse front)
 ends_back j s front l picked is =
@@ -34,7 +34,7 @@ ends_back j s front l picked is =
     ∙ ap (λ zs. front ++ l ∷ zs) (reverse-reverse picked) in
     subst (λ (zs : List Link). IsLeastCycle j s zs) (sym e) is
 
--- ---- a least cycle doesn't go on past another, and tied links are the same
+-- ---- no least cycle extends another, and tied links are equal
 
 never_past : (j : Judged) (s : ℕ) (done : List Link) (l : Link) (rest : List Link) → IsBack j s (done ++ l ∷ rest) → IsBack j s done → ⊥
 never_past j s done l rest p q =

@@ -1,4 +1,4 @@
--- A row that all reads lowered that b may contradict has the prices from b.
+-- A row that was lowered by all reads that b may contradict has the prices from b.
 use Rattle.std.proofs.Common.{ℕ, ◌+◌, ◌<◌, ◌≤◌, ◌≡◌, ◌≢◌, ◌==◌, ◌⊎◌, inl, inr, Bool, true, false, List, [], length}
 use Rattle.std.proofs.Common.{get_or, flat_map, if◌then◌else◌, None, Some, refl, sym, ◌∙◌, subst}
 use Rattle.std.proofs.Common.{arith, ⊎_elim}
@@ -77,7 +77,7 @@ module _ (j : Judged) (near : NearTable) (reads : List (List Read)) (written : L
       (wrote.each b key.0 from key.1 (rw key.2 writer))
       ((read.each key.0 key.1 (record { source = a; reader = c })).1 (rw key.2 pair))
 
-  -- each read of a key that b writes may be contradicted by b
+  -- b may contradict each read of a key that it writes
   read_reason : (r : Read) → Contains (flat_map (bucket reads) (bucket written b)) r → r.source ≢ b
       → (x : List ℕ) × MayContradict j.history b r.source x r.reader
   read_reason r there ne =
@@ -128,7 +128,7 @@ module _ (j : Judged) (near : NearTable) (reads : List (List Read)) (written : L
           let may = read_reason w.0 w.1 (λ e. w.3 (sym w.2 ∙ e)) in
           by w.0 w.1 w.2 w.3 w.4 (distance_cases j near b w.0.reader nears from may.1.1.1) may.1.1.1
 
-  -- where the row has none, nothing is derived
+  -- if the row has none, nothing is derived
   nothing : (a : ℕ) → get_or row a 0 ≡ NONE → (l : Link) → IsDerived j b a l → ⊥
   nothing a none l (x, c, walk, is, reason) =
       let most = at_most a x c walk reason in

@@ -1,4 +1,4 @@
--- All rows together are the prices of a history at a level, and name no transactions that it doesn't have.
+-- All rows together are the prices of a history at a level, and name only its transactions.
 use Rattle.std.proofs.Common.{ℕ, ◌<◌, ◌≤◌, ◌≡◌, List, [], length, get_or, refl, sym, subst, arith}
 use Rattle.std.specs.Prelude.{All, slice_index}
 use Rattle.std.specs.List.{AllPairs}

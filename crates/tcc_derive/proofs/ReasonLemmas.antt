@@ -33,12 +33,12 @@ number_up_to : (m n : ℕ) → m ≤ n → nat_cmp m n ≢ Greater
 number_up_to m n low e = let over : n < m = ranked m n Greater (sym e) in omega arith
 
 module _ (j : Judged) (near : NearTable) (b a : ℕ) (nears : IsNearOf j near) (from : b < count j.history) where
-  -- where each reader is out of reach, nothing is derived
+  -- if no reader can be reached, nothing is derived
   pub none_derived : ((x : List ℕ) (d : ℕ) → MayContradict j.history b a x d → get_or (row_of near.rows b) d 0 ≡ NONE) → (l : Link) → IsDerived j b a l → ⊥
   none_derived none l (x, d, walk, is, (may, leads)) = out_of_reach j near b d nears from may.1.1 (none x d may) walk leads
 
   module _ (x : List ℕ) (c : ℕ) (walk : List Step) (choice : IsChoice j.history (row_of near.rows b) b a x c) (first : IsFirstWalk j b c walk) where
-    -- no other walk is shorter than what the row says of its reader, and ours is no longer
+    -- no other walk to a reader is shorter than the row says, and this one isn't longer
     at_least : (y : List ℕ) (d : ℕ) (other : List Step) → MayContradict j.history b a y d → IsAllowedWalk j b d other
         → get_or (row_of near.rows b) d 0 ≤ length other
     at_least y d other may leads = go (distance_cases j near b d nears from may.1.1)

@@ -9,7 +9,7 @@ use Rattle.tcc_derive.specs.private.Sources.{AreByReader, AreSources}
 use Rattle.tcc_derive.specs.declared.read.Read.{Read}
 use Rattle.tcc_derive.proofs.BucketLemmas.{puts_push}
 
--- a fact of all is one of each
+-- a fact of all is a fact of each
 pub of_all : {X : Type 0} (P : X → Type 0) (xs : List X) (x : X) → All P xs → Contains xs x → P x
 of_all P xs x all (k, l, e) = subst P e (all k x l)
 

@@ -17,7 +17,7 @@ use Rattle.tcc_graph.specs.declared.step.Step.TheVariants as step
 use Rattle.tcc_derive.specs.Names.{IsFirstName}
 use Rattle.tcc_derive.specs.private.LeadingBack.{IsUpTo, IsFirstStep}
 
--- a session step comes before every other
+-- a session step comes before every other step
 pub session_step : (h : History) (u v : ℕ) → IsSessionPair h u v → IsFirstStep h u v (step.Session u v)
 session_step h u v p = record { step = p; from = refl; to = refl; first = λ o is from to. first o is from to }
   where
@@ -30,7 +30,7 @@ not_above x y none above =
     let less : name_cmp y x ≡ Less = rw (nat_list_cmp_total.antisymm y x, above) refl in
     absurd (false≢true (sym none ∙ ap is_lt less))
 
--- without one, the read of the first key does
+-- without a session step, the read of the first key comes first
 pub reads_step : (h : History) (u v : ℕ) (x : List ℕ) → u < count h → v < count h → session_pair h u v ≡ false → IsFirstName (reads_from h u v) x
     → IsFirstStep h u v (step.Reads u v x)
 reads_step h u v x from' to' none named = record { step = (from', to', named.0); from = refl; to = refl; first = λ o is from to. first o is from to }

@@ -27,7 +27,7 @@ no_items table i x empty h = go (rw (nothing (cases_lt i (length table))) at h)
     go : Contains {X = _} [] x → ⊥
     go (k, l, e) = absurd (omega arith)
 
--- whom a key is read from, and who reads it, are transactions of the history
+-- the source and the reader of each read of a key are transactions of the history
 pub reads_below : (h : History) (x : List ℕ) (sources readers : List ℕ) → length sources ≡ length readers
     → ((a c : ℕ) → Contains (zip sources readers) (a, c) ↔ IsReadsPair h a c x) → (i : ℕ) → i < length sources
     → (get_or sources i 0 < count h) × (get_or readers i 0 < count h)
@@ -35,7 +35,7 @@ reads_below h x sources readers same pairs i inside =
     let pair = (pairs (get_or sources i 0) (get_or readers i 0)).0 (zip_has sources readers i 0 same inside) in
     (pair.0, pair.1)
 
--- reads that stand as their sources and their readers do are the reads of a key
+-- reads that are listed as their sources and their readers are, are the reads of a key
 pub reads_listed : (h : History) (k : ℕ) (sources readers : List ℕ) (reads : List Read) → length sources ≡ length readers
     → ((a c : ℕ) → Contains (zip sources readers) (a, c) ↔ IsReadsPair h a c (name_of (keys h) k)) → length reads ≡ length sources
     → ((i : ℕ) (d : Read) → i < length sources → get_or reads i d ≡ record { source = get_or sources i 0; reader = get_or readers i 0 }) → AreReadsAt h k reads

@@ -1,4 +1,4 @@
--- Walks and links that tie are the same, where they lead to the same end.
+-- Walks and links that tie are the same if they lead to the same end.
 use Rattle.std.proofs.Common.{ℕ, ◌≡◌, List, [], ◌∷◌, reverse, refl, sym, ◌∙◌, ap, subst}
 use Rattle.std.specs.Ordering.{nat_cmp}
 use Rattle.std.specs.Cmp.Lexicographic.{slice_cmp}

@@ -1,4 +1,4 @@
--- Least cycles that meet nothing below their start, and where their first links lead.
+-- Least cycles that have nothing below their start, and what their first links lead to.
 use Rattle.std.proofs.Common.{ℕ, ◌≡◌, ◌≤◌, List, [], ◌∷◌, ◌++◌, append_assoc, append-nil, All, refl, sym, subst, arith}
 use Rattle.tcc_graph.specs.Levels.{Judged}
 use Rattle.tcc_graph.specs.Links.{link_from, link_to, cost}
@@ -20,7 +20,7 @@ turn j s front l rest is =
       least = λ t others other. omega (arith, is.least t others other);
     }
 
--- where no least cycle starts below s, those from there meet nothing below it
+-- if no least cycle starts below s, those from s have nothing below it
 module _ (j : Judged) (s : ℕ) (lowest : (t : ℕ) (others : List Link) → IsLeastCycle j t others → s ≤ t) where
   pub begins_above : (front : List Link) (l : Link) (rest : List Link) → IsLeastCycle j s (front ++ l ∷ rest) → s ≤ link_from l
   begins_above front l rest is = lowest (link_from l) (l ∷ rest ++ front) (turn j s front l rest is)

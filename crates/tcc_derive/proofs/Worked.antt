@@ -8,14 +8,14 @@ use Rattle.tcc_derive.specs.private.Lowering.{price_by}
 use Rattle.tcc_derive.specs.private.LeadingBack.{stands_at, Ahead}
 use Rattle.tcc_near.specs.declared.walk_lengths.TheConstants.{NONE}
 
--- a step more than the way to the reader; no way stays no way
+-- one step more than the way to the reader; if there is no way, there is no price
 one_more : price_by (2 ∷ NONE ∷ []) (record { source = 1; reader = 0 }) ≡ 3
 one_more = refl
 
 out_of_reach : price_by (2 ∷ NONE ∷ []) (record { source = 0; reader = 1 }) ≡ NONE
 out_of_reach = refl
 
--- of two transactions, 1 contradicts a read from 0 by a walk of three steps, and 0 has a session pair to it
+-- a history of two transactions: 1 contradicts a read from 0 by a walk of three steps, and 0 has a session pair to it
 abbrev two : Tables
 two = record {
   level = level.Causal;
@@ -52,14 +52,14 @@ none_later v w = omega (arith, w.0, w.1)
 other_of_one : others_at two 1 ≡ (0, 4) ∷ []
 other_of_one = refl
 
--- of links by cost 1 has that one, and with a limit below its cost it would have none
+-- links by cost: 1 has that one, and with a limit below its cost it would have none
 by_cost_of_one : costs_below 2 2 (others_at two 1) 5 ≡ (0, 4) ∷ []
 by_cost_of_one = refl
 
 past_the_limit : costs_below 2 2 (others_at two 1) 4 ≡ []
 past_the_limit = refl
 
--- no steps lead to the start alone, some lead where the row says so
+-- no steps lead only to the start; some lead where the row says so
 at_start : stands_at (2 ∷ 1 ∷ []) 1 1 0 ≡ true
 at_start = refl
 
@@ -77,6 +77,6 @@ lower_start = inl refl
 session_first : Ahead (step.Session 1 4 ∷ []) (step.Reads 1 4 (120 ∷ []) ∷ [])
 session_first = inl refl
 
--- of two last steps that are reads that of the first key comes first
+-- of two last steps that are reads the one of the first key comes first
 key_first : Ahead (step.Reads 1 4 (109 ∷ []) ∷ []) (step.Reads 1 4 (114 ∷ []) ∷ [])
 key_first = inl refl

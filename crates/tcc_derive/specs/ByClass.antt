@@ -1,5 +1,5 @@
--- The links other than session links from one transaction, of those within the limit: some classes of one cost by rows of
--- marks, and the others one by one. No answer is told by which of them have a row.
+-- The links other than session links from one transaction that cost at most the limit: some classes of one cost by rows of
+-- marks, and the others one by one. No answer depends on which of them have a row.
 use Rattle.std.specs.Prelude.{ℕ, ◌<◌, ◌≤◌, ◌≡◌, ◌⊎◌, ◌↔◌, true, List, length, All, Contains, Some}
 use Rattle.std.specs.List.{AllPairs}
 use Rattle.tcc_bits.specs.Bits.{is_marked, words_for}
@@ -7,18 +7,18 @@ use Rattle.tcc_derive.specs.Prices.{Tables, IsLater, cost_at}
 use Rattle.tcc_derive.specs.declared.by_class.Class.{Class}
 use Rattle.tcc_derive.specs.declared.by_class.ByClass.{ByClass}
 
--- a link from u to v that is no session link costs c, which is within the limit
+-- a link from u to v that is not a session link costs c, which is at most the limit
 abbrev pub IsCheap : Tables → ℕ → ℕ → ℕ → Type 0
 IsCheap t u v c = (v < length t.prices) × (IsLater t u v → ⊥) × (cost_at t u v ≡ Some c) × (c ≤ t.limit)
 
--- a link to v at cost c stands among these
+-- these have a link to v at cost c
 abbrev pub HasLinkAmong : List Class → List (ℕ × ℕ) → ℕ → ℕ → Type 0
 HasLinkAmong classes rest v c = Contains rest (v, c) ⊎ ((class : Class) × Contains classes class × (class.cost ≡ c) × (is_marked class.marks v ≡ true))
 
 abbrev pub HasLink : ByClass → ℕ → ℕ → Type 0
 HasLink links v c = HasLinkAmong links.classes.items links.rest v c
 
--- these are all such links from u, those one by one in ascending cost; a row of marks has room for all transactions
+-- these are all such links from u, in ascending cost if one by one; a row of marks has room for all transactions
 pub record IsByClass (t : Tables) (u : ℕ) (links : ByClass) : Type 0 where
   pub each : (v : ℕ) (c : ℕ) → HasLink links v c ↔ IsCheap t u v c
   pub ascending : AllPairs (λ p q. p.1 ≤ q.1) links.rest

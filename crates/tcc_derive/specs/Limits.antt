@@ -1,4 +1,4 @@
--- Up to which cost links are kept by what they cost, and whether all are.
+-- Up to which cost links are kept by cost, and whether all are.
 use Rattle.std.specs.Prelude.{ℕ, ◌+◌, ◌<◌, ◌≤◌, ◌≡◌, ◌⊎◌, List, length, All, Some}
 use Rattle.tcc_near.specs.WalkLengths.{least}
 use Rattle.tcc_near.specs.declared.walk_lengths.TheConstants.{NONE}
@@ -15,8 +15,7 @@ IsClosing near prices n =
 abbrev pub IsLeastClosing : List (List ℕ) → List (List ℕ) → ℕ → Type 0
 IsLeastClosing near prices n = IsClosing near prices n × ((m : ℕ) → IsClosing near prices m → n ≤ m)
 
--- the limit is what the cheapest of such cycles costs; where none costs less than the mark for none, it is the one that stands
--- for that
+-- The limit is the cost of the cheapest of such cycles. If none costs less than the mark for none, it is `NO_CYCLE_LIMIT`.
 abbrev pub IsLimit : List (List ℕ) → List (List ℕ) → ℕ → Type 0
 IsLimit near prices limit =
     IsLeastClosing near prices limit

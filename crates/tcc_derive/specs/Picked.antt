@@ -11,8 +11,8 @@ use Rattle.tcc_graph.specs.declared.link.Link.{Link}
 abbrev pub EndsLeastCycle : Judged → ℕ → List Link → Type 0
 EndsLeastCycle j s links = (front : List Link) × IsLeastCycle j s (front ++ links)
 
--- no least cycle starts at a lower number; and each link, from the last backwards, is the first that, followed by those
--- picked already, ends some least cycle from s
+-- No least cycle starts at a lower number. Each link, from the last backwards, is the first that, followed by those picked
+-- already, ends some least cycle from s.
 pub record IsPickedCycle (j : Judged) (s : ℕ) (links : List Link) : Type 0 where
   pub least : IsLeastCycle j s links
   pub lowest : (t : ℕ) (others : List Link) → IsLeastCycle j t others → s ≤ t

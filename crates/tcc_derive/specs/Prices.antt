@@ -22,12 +22,12 @@ pub record IsLeastAmong (is_one : Link → Type 0) (n : ℕ) : Type 0 where
   pub attained : (l : Link) × is_one l × (link_cost l ≡ n)
   pub least : (l : Link) → is_one l → n ≤ link_cost l
 
--- the least cost of these links; none where there is none of them
+-- the least cost of these links; none if there are no such links
 abbrev pub IsLeastCostOf : (Link → Type 0) → Option ℕ → Type 0
 IsLeastCostOf is_one None = (l : Link) → is_one l → ⊥
 IsLeastCostOf is_one (Some n) = IsLeastAmong is_one n
 
--- the least cost of a derived link from b to a, over all its reasons; none where there is no reason
+-- the least cost of a derived link from b to a, over all its reasons; none if there is no reason
 abbrev pub IsPrice : Judged → ℕ → ℕ → Option ℕ → Type 0
 IsPrice j b a = IsLeastCostOf (IsDerived j b a)
 
@@ -37,13 +37,13 @@ pub record IsLinkOf (j : Judged) (a : ℕ) (b : ℕ) (l : Link) : Type 0 where
   pub to : link_to l ≡ b
   pub link : IsLink j l
 
--- the least cost of a link from a to b, of whatever kind; none where there is no link
+-- the least cost of a link from a to b, of any kind; none if there is no link
 abbrev pub IsCost : Judged → ℕ → ℕ → Option ℕ → Type 0
 IsCost j a b = IsLeastCostOf (IsLinkOf j a b)
 
--- a level, and tables by transaction: what derived links cost at it, where the numbers end that session pairs lead to, and
--- the numbers that other links lead to, each with the least cost of a link there; and what links cost at most that are kept
--- by cost
+-- A level, and tables by transaction. `prices` has the costs of derived links at the level, and `ends` the end of the numbers
+-- that session pairs lead to. `others` has the numbers that other links lead to, each with the least cost of a link there.
+-- `limit` is the highest cost of links that are kept by cost.
 pub record Tables : Type 0 where
   pub level : Level
   pub prices : List (List ℕ)
@@ -60,12 +60,12 @@ end_of t u = slice_index t.ends u
 abbrev pub others_at : Tables → ℕ → List (ℕ × ℕ)
 others_at t u = row_of t.others u
 
--- what stands beside a number in a list; none where it doesn't stand there
+-- the value beside a number in a list; none if the list lacks the number
 abbrev pub cost_among : List (ℕ × ℕ) → ℕ → Option ℕ
 cost_among [] v = None
 cost_among (p ∷ others) v = if p.0 == v then Some p.1 else cost_among others v
 
--- the least cost of a link from u to v: 1 where a session pair leads there, else what stands beside v among the others of u
+-- the least cost of a link from u to v: 1 if a session pair leads there, else the value beside v among the others of u
 unfoldable pub cost_at : Tables → ℕ → ℕ → Option ℕ
 cost_at t u v = if nat_lt u v && nat_lt v (end_of t u) then Some 1 else cost_among (others_at t u) v
 

@@ -1,6 +1,6 @@
-//! The links other than session links by what they cost, of those within the limit, from a bucket sort by cost (`by_cost`): those
-//! of a small cost that many have become a row of marks, the others stand one by one. Each link stands in just one of the two. For
-//! N transactions, M links and limit C that takes N C + M steps, and N / 64 words for each row of marks.
+//! The links other than session links by cost, of those within the limit, from a bucket sort by cost (`by_cost`). Those of a
+//! small cost that many have become a row of marks, and the others are listed one by one. Each link is in exactly one of the
+//! two. For N transactions, M links and limit C that takes N C + M steps, and N / 64 words for each row of marks.
 ghost use Rattle.std.specs.Prelude.{◌≡◌, ◌<◌, ◌≤◌, ◌+◌, length, All, IfOk, slice_index};
 ghost use Rattle.tcc_txn.specs.declared.limits.TheConstants.{MAX_COUNT};
 ghost use Rattle.tcc_graph.specs.Tables.{row_of};
@@ -16,7 +16,7 @@ use tcc_txn::NoMemory;
 /// Links that cost more have no row of marks.
 const DEAREST: usize = 16;
 
-/// So many links of a cost have a row of marks at least.
+/// If at least this many links have a cost, they have a row of marks.
 const MANY: usize = 32;
 
 /// The links of one cost: the transactions that they lead to are marked.
@@ -26,14 +26,14 @@ pub struct Class {
     pub marks: Row<u64>,
 }
 
-/// Links by what they cost: those of a small cost that many have as a row of marks, the others one by one with their costs.
+/// Links by cost: those of a small cost that many have as a row of marks, the others one by one with their costs.
 #[derive(Drop)]
 pub struct ByClass {
     pub classes: Vec<Class>,
     pub rest: Row<(u16, u16)>,
 }
 
-/// A row of marks of where these links lead.
+/// A row that marks what these links lead to.
 fn marks_of(alloc: Global, links: &[(u16, u16)], count: usize) -> Result<Row<u64>, NoMemory>
     requires { All (λ p. p.0 < count) links.now }
     ensures { IfOk result (IsMarksOf count links.now) }
@@ -45,7 +45,7 @@ fn marks_of(alloc: Global, links: &[(u16, u16)], count: usize) -> Result<Row<u64
     Ok(Row::new(marks))
 }
 
-/// The others outside `first..end` that cost at most the limit, by what they cost.
+/// The others outside `first..end` that cost at most the limit, by cost.
 fn by_class_row(
     alloc: Global,
     others: &[(u32, u32)],
@@ -80,7 +80,7 @@ fn by_class_row(
     })
 }
 
-/// The links of each transaction by what they cost, outside the later ones of its session: in rows of marks and one by one.
+/// The links of each transaction by cost, outside the later ones of its session: in rows of marks and one by one.
 pub(crate) fn by_class_rows(
     rt: &(impl Threads + Sync),
     alloc: Global,

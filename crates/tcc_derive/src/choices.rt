@@ -1,6 +1,6 @@
-//! The choice of a key and a reader for a reason, by linear search: behind each key and reader the best is the first of the nearest
-//! so far, since another takes its place only where it is nearer. For K keys it takes K look-ups, and a step for each of their
-//! writers and for each read from the one transaction.
+//! The choice of a key and a reader for a reason, by linear search. After each key and reader the best is the first of the
+//! nearest so far, since another replaces it only if it is nearer. For K keys it takes K look-ups, and a step for each of
+//! their writers and for each read from the one transaction.
 ghost use Rattle.std.specs.Prelude.{◌≡◌, ◌<◌, ℕ, List, length, All, Contains, MatchOption, slice_index};
 ghost use Rattle.std.specs.List.Sorted.{IsStrictlySortedBy};
 ghost use Rattle.std.specs.Ordering.{nat_cmp};
@@ -13,7 +13,7 @@ use tcc_graph::LargeGraph;
 use tcc_near::NONE;
 use tcc_txn::Name;
 
-/// Of the readers, which ascend, the first that the fewest steps lead to; none where no steps lead to any.
+/// The first of the readers, which ascend, to which the fewest steps lead; none if no steps lead to any.
 fn nearest(readers: &[u32], steps: &[u16]) -> Option<u32>
     requires order { IsStrictlySortedBy nat_cmp readers.now }
     requires below { All (λ c. c < length steps.now) readers.now }
@@ -31,7 +31,7 @@ fn nearest(readers: &[u32], steps: &[u16]) -> Option<u32>
     best
 }
 
-/// Of the readers of the key that `b` may contradict, the first that the fewest steps lead to.
+/// The first of the readers of the key that `b` may contradict to which the fewest steps lead.
 fn nearest_reader(graph: &LargeGraph, steps: &[u16], b: u32, a: u32, key: &Name) -> Option<u32>
     requires from { b < count graph.now }
     requires to { a < count graph.now }
@@ -45,7 +45,7 @@ fn nearest_reader(graph: &LargeGraph, steps: &[u16], b: u32, a: u32, key: &Name)
     nearest(graph.readers(a, key), steps)
 }
 
-/// Of all keys and readers that `b` may contradict, the first that the fewest steps lead to, by key and by reader.
+/// The first, by key and by reader, of all keys and readers that `b` may contradict to which the fewest steps lead.
 pub(crate) fn choice(graph: &LargeGraph, steps: &[u16], b: u32, a: u32) -> Option<(Name, u32)>
     requires from { b < count graph.now }
     requires to { a < count graph.now }

@@ -1,7 +1,7 @@
-//! Rows of prices, side by side in threads: what a derived link costs at least from one transaction to each. Of each key that it
-//! writes every read lowers what stands at the source (relaxation), so that behind a read no source has more steps than lead to its
-//! readers so far. A transaction takes N steps, and one for each read of a key that it writes, or a sweep (`level_sweep`) for a key
-//! that is read very often.
+//! Rows of prices, side by side in threads: what a derived link costs at least from one transaction to each. For each key that
+//! the transaction writes, every read lowers the value of its source (relaxation). So after a read no source has more steps
+//! than lead to its readers so far. A transaction takes N steps, and one for each read of a key that it writes, or a sweep
+//! (`level_sweep`) for a key that is read very often.
 ghost use Rattle.std.specs.Prelude.{◌≡◌, ◌<◌, ◌≤◌, ◌⊎◌, ℕ, length, All, IfOk, OnOk, flat_map, slice_index};
 ghost use Rattle.tcc_reads.specs.History.{count};
 ghost use Rattle.tcc_near.specs.{WalkLengths.IsNearOf, declared.walk_lengths.TheConstants.NONE};
@@ -21,7 +21,7 @@ use tcc_graph::Graph;
 use tcc_near::{NONE, Near};
 use tcc_txn::NoMemory;
 
-/// With more levels of lengths the reads of a key are gone through one by one.
+/// With more levels of lengths the reads of a key are visited one by one.
 const FEW_LEVELS: u16 = 64;
 
 /// Lowers the fewest steps to the readers of each transaction by the reads of one key.
@@ -37,7 +37,7 @@ fn lower(nearest: &mut [u16], reads: &[Read], steps: &[u16])
     }
 }
 
-/// One step more for each, as far as a row can hold them.
+/// One more step for each, as far as a row can hold them.
 fn add_step(costs: &mut [u16])
     ensures same { length costs.new ≡ length costs.old }
     ensures each { (a : ℕ) → a < length costs.old → slice_index costs.new a ≡ one_more (slice_index costs.old a) }
@@ -47,8 +47,8 @@ fn add_step(costs: &mut [u16])
     }
 }
 
-/// Lowers the fewest steps to the readers of each transaction by the reads of one key: level by level where the key has rows
-/// of marks and there are few levels.
+/// Lowers the fewest steps to the readers of each transaction by the reads of one key. It goes level by level if the key has
+/// rows of marks and there are few levels.
 fn lower_by_key(
     alloc: Global,
     nearest: &mut [u16],
@@ -75,7 +75,7 @@ fn lower_by_key(
     lower_by_levels(alloc, nearest, key_reads, rows, steps, levels)
 }
 
-/// What derived links from `b` cost, by the keys that it writes and the lengths from it: a step more than the way to the
+/// What derived links from `b` cost, by the keys that it writes and the lengths from it: one step more than the way to the
 /// nearest reader. None leads to `b` itself.
 fn price_row(
     alloc: Global,
@@ -101,7 +101,7 @@ fn price_row(
     Ok(Row::new(costs))
 }
 
-/// What derived links cost, a row for each transaction that they lead from; or that there is no room for it.
+/// What derived links cost, a row for each transaction that they lead from; or the error that memory is out.
 pub(crate) type PriceRows = Result<Vec<Row<u16>>, NoMemory>;
 
 /// What derived links cost, a row for each transaction that they lead from, by the reads of each key and the keys that

@@ -1,6 +1,7 @@
-//! An upper bound on the least cost of a cycle: the least that a walk costs that ends where it began, or a walk and one derived
-//! link back. Links that cost more are not kept by cost. The least over all pairs of transactions, N * N steps, in blocks of rows
-//! so that a row of prices is read once for a block (loop tiling); what was gone through costs no less than the least so far.
+//! An upper bound on the least cost of a cycle: the least cost of a walk that ends where it began, or of a walk and one
+//! derived link back. Links that cost more are not kept by cost. It is the least over all pairs of transactions, in N * N
+//! steps. They are visited in blocks of rows, so that a row of prices is read once for a block (loop tiling). What was visited
+//! costs no less than the least so far.
 ghost use Rattle.std.specs.Prelude.{◌≡◌, ◌<◌, ◌≤◌, ◌↔◌, ◌⊎◌, ℕ, false, true, length, slice_index, All};
 ghost use Rattle.tcc_txn.specs.declared.limits.TheConstants.{MAX_COUNT};
 ghost use Rattle.tcc_near.specs.WalkLengths.{IsSquare};
@@ -11,16 +12,16 @@ ghost use Rattle.tcc_graph.specs.Tables.{row_of};
 use tcc_bits::Row;
 use tcc_near::{NONE, Near};
 
-/// So many rows of lengths are read side by side, so that a row of prices is read once for all of them.
+/// This many rows of lengths are read side by side, so that a row of prices is read once for all of them.
 const BLOCK: usize = 32;
 
-/// A row of others is looked through one by one where it has at most this part of all transactions.
+/// A row of others is visited one by one if it has at most this part of all transactions.
 const PART: usize = 16;
 
-/// The limit where no such cycle is.
+/// The limit if there is no such cycle.
 pub(crate) const NO_CYCLE_LIMIT: u16 = 64;
 
-/// The least cost of a walk from one of these transactions to `b` and a derived link back, by what such links from `b` cost.
+/// The least cost of a walk from one of these transactions to `b` and a derived link back, by the prices from `b`.
 fn least_back(near: &Near, prices: &[u16], from: usize, to: usize, b: usize) -> u16
     requires within { to ≤ length prices.now }
     requires long { length prices.now ≡ length near.now.rows }
@@ -99,8 +100,8 @@ fn least_of_few(near: &Near, prices: &[Row<u16>], others: &[Row<(u32, u32)>], fe
     least
 }
 
-/// What links are kept by cost: up to the least cost of a cycle that a walk makes, or a walk and one derived link back. No
-/// search that begins with such a cycle leads on by a link that costs more.
+/// Up to which cost links are kept by cost: the least cost of a cycle that a walk makes, or a walk and one derived link back.
+/// No search that begins with such a cycle goes on by a link that costs more.
 pub(crate) fn cost_limit(near: &Near, prices: &[Row<u16>], others: &[Row<(u32, u32)>]) -> u16
     requires square { IsSquare (length near.now.rows) prices.now }
     requires same { length others.now ≡ length near.now.rows }

@@ -1,4 +1,4 @@
-//! Edge weights of one row: what links of all kinds from a transaction cost, a step for each transaction.
+//! Edge weights of one row: what links of all kinds from a transaction cost, in a step for each transaction.
 ghost use Rattle.std.specs.Prelude.{◌≡◌, length, IfOk};
 ghost use Rattle.tcc_derive.specs.private.Lowering.{HasPairs};
 
@@ -6,8 +6,8 @@ use std::alloc::Global;
 use tcc_bits::Row;
 use tcc_txn::NoMemory;
 
-/// What links of all kinds from a transaction cost, by the steps from it and by what derived links from it cost: where one
-/// step leads there is a causal pair.
+/// What links of all kinds from a transaction cost, by the steps from it and by the prices of derived links from it. If one
+/// step leads to a transaction, there is a causal pair.
 pub(crate) fn cost_row(alloc: Global, steps: &[u16], prices: &[u16]) -> Result<Row<u16>, NoMemory>
     requires { length steps.now ≡ length prices.now }
     ensures { IfOk result (HasPairs steps.now prices.now) }

@@ -1,6 +1,7 @@
-//! The edge weights of all links of a graph at a level: dense rows of prices (`conflict_weights`), and from them sparse rows of the
-//! links other than session links (`others`), parted by cost (`by_class`) up to what the least of the cheapest closings costs
-//! (`cost_limit`). For N transactions that takes N * N steps, and one for each transaction and each read of a key that it writes.
+//! The edge weights of all links of a graph at a level. They are dense rows of prices (`conflict_weights`), and sparse rows of
+//! the links other than session links (`others`), which follow from the prices. These are split by cost (`by_class`) up to the
+//! cost of the cheapest closing (`cost_limit`). For N transactions that takes N * N steps, and one for each transaction and
+//! each read of a key that it writes.
 ghost use Rattle.std.specs.Prelude.{◌≤◌, length, IfOk};
 ghost use Rattle.tcc_near.specs.WalkLengths.{IsNearOf};
 ghost use Rattle.tcc_derive.specs.{Limits.IsLimit, Prices.IsPricesOf, private.Rows.IsPriceRow, private.Rows.HasRows};
@@ -21,7 +22,7 @@ use tcc_graph::Graph;
 use tcc_near::Near;
 use tcc_txn::NoMemory;
 
-/// What derived links cost, a row for each transaction that they lead from, by who reads and who writes each key.
+/// What derived links cost, a row for each transaction that they lead from, by the readers and the writers of each key.
 fn all_prices(rt: &(impl Threads + Sync), alloc: Global, graph: &Graph, near: &Near) -> PriceRows
     requires { IsNearOf (judged graph.now near.now.level) near.now }
     ensures rows { IfOk result (λ rows. HasRows graph.now (IsPriceRow (judged graph.now near.now.level)) rows.items) }
@@ -33,12 +34,11 @@ fn all_prices(rt: &(impl Threads + Sync), alloc: Global, graph: &Graph, near: &N
     price_rows(rt, alloc, graph, &reads, &sources, &written, near)
 }
 
-/// The prices of a graph, or that there is no room for them.
+/// The prices of a graph, or the error that memory is out.
 pub type MadePrices = Result<Prices, NoMemory>;
 
-/// The prices of a graph, by its lengths and at their level.
-/// Between each two transactions they are the least cost of a derived link, over all its reasons, and that of a link of
-/// whatever kind; none where there is no such link.
+/// The prices of a graph, by its lengths and at their level. Between each two transactions they are the least cost of a
+/// derived link, over all its reasons, and that of a link of any kind; none if there is no such link.
 pub fn derive(rt: &(impl Threads + Sync), alloc: Global, graph: &Graph, near: &Near) -> MadePrices
     requires { IsNearOf (judged graph.now near.now.level) near.now }
     ensures prices { IfOk result (IsPricesOf (judged graph.now near.now.level)) }

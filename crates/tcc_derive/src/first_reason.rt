@@ -13,8 +13,8 @@ use tcc_graph::{Graph, Link};
 use tcc_near::Near;
 use tcc_txn::NoMemory;
 
-/// A derived link from `b` to `a` that costs the price at the level of the lengths, the first by key, reader and walk;
-/// none where there is no price.
+/// A derived link from `b` to `a` that costs the price at the level of the lengths, the first by key, reader and walk; none if
+/// there is no price.
 pub fn reason(
     alloc: Global,
     graph: &Graph,

@@ -1,6 +1,6 @@
-//! The first shortest walk, traced back from its end by the lengths: each step is the first that comes from a transaction whose
-//! length is one less. What was taken is the end of the first shortest walk. L steps among N transactions take L N looks at a
-//! length.
+//! The first shortest walk, traced back from its end by the lengths. Each step is the first that comes from a transaction
+//! whose length is one less. What was taken is the end of the first shortest walk. L steps among N transactions take L N
+//! look-ups of a length.
 ghost use Rattle.std.specs.Prelude.{◌≡◌, ◌≢◌, ◌<◌, ◌+◌, ℕ, true, [], length, Contains, IfOk, MatchOption, slice_index};
 ghost use Rattle.tcc_reads.specs.History.{count};
 ghost use Rattle.tcc_graph.specs.{declared.step.Step.Step, Levels.judged, Tables.row_of};
@@ -14,14 +14,14 @@ use tcc_graph::{Graph, Step, Walk};
 use tcc_near::Near;
 use tcc_txn::{Name, NoMemory};
 
-/// The first of the names; none where there are none.
+/// The first of the names; none if there are none.
 pub fn first_name(names: &[Name]) -> Option<Name>
     ensures { MatchOption result (length names.now ≡ 0) (IsFirstName names.now) }
 {
     names.iter().copied().min()
 }
 
-/// The first step from one transaction to another; none where there is no causal pair.
+/// The first step from one transaction to another; none if there is no causal pair.
 fn first_step(graph: &Graph, from: u32, to: u32) -> Option<Step>
     requires from { from < count graph.now }
     requires to { to < count graph.now }
@@ -34,7 +34,7 @@ fn first_step(graph: &Graph, from: u32, to: u32) -> Option<Step>
     Some(Step::Reads { from, to, key })
 }
 
-/// Whether `left` steps lead to the transaction from `b`, and no fewer; no steps lead to `b` alone.
+/// Whether `left` steps lead to the transaction from `b`, and no fewer; no steps lead only to `b`.
 fn stands_at(steps: &[u16], b: u32, transaction: u32, left: u16) -> bool
     requires { transaction < length steps.now }
     ensures { result ≡ stands_at steps.now b transaction left }
@@ -46,7 +46,7 @@ fn stands_at(steps: &[u16], b: u32, transaction: u32, left: u16) -> bool
     }
 }
 
-/// The first step to `end` from where `left` steps lead from `b`.
+/// The first step to `end` from a transaction to which `left` steps lead from `b`.
 fn last_step(graph: &Graph, steps: &[u16], b: u32, end: u32, left: u16) -> Option<Step>
     requires end { end < count graph.now }
     requires long { length steps.now ≡ count graph.now }

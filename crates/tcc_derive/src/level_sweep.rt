@@ -1,6 +1,7 @@
-//! The edge weights that reads of one key give, by a breadth-first sweep over rows of marks, 64 transactions in a word. Behind a
-//! level each source of a reader at that length or a lesser one has the least length of its readers, and is marked as seen: so it
-//! is found once, at the first level. A transaction takes L N + N * N / 64 steps for L levels, however many readers the key has.
+//! The edge weights that reads of one key give, by a breadth-first sweep over rows of marks, 64 transactions in a word. After
+//! a level each source of a reader at that length or a lesser one has the least length of its readers, and is marked as seen.
+//! So it is found once, at the first level. A transaction takes L N + N * N / 64 steps for L levels, however many readers the
+//! key has.
 ghost use Rattle.std.specs.Prelude.{◌≡◌, ◌<◌, ◌≤◌, ◌+◌, ◌⊎◌, ℕ, List, true, length, slice_index, All, Contains, OnOk};
 ghost use Rattle.tcc_txn.specs.declared.limits.TheConstants.{LARGE_COUNT, MAX_COUNT};
 ghost use Rattle.tcc_bits.specs.Bits.{is_marked, words_for};
@@ -38,7 +39,7 @@ fn lower_each(nearest: &mut [u16], sources: &[u32], distance: u16)
     }
 }
 
-/// Takes in from whom a reader at a length reads; what was seen has no more steps than that.
+/// Adds the sources of a reader at a length; what was seen has no more steps than that.
 fn take_reader(
     nearest: &mut [u16],
     seen: &mut [u64],
@@ -60,7 +61,7 @@ fn take_reader(
     Ok(())
 }
 
-/// Takes in the readers at a length, by the rows of marks of some reads; those that are nearer were taken in before.
+/// Adds the readers at a length, by the rows of marks of some reads; nearer ones were added before.
 fn take_level(
     nearest: &mut [u16],
     seen: &mut [u64],
@@ -88,7 +89,7 @@ fn take_level(
     Ok(())
 }
 
-/// Lowers the fewest steps to the readers of each transaction by the reads of one key, of which these are the rows of marks.
+/// Lowers the fewest steps to the readers of each transaction by the reads of one key, whose rows of marks these are.
 pub(crate) fn lower_by_levels(
     alloc: Global,
     nearest: &mut [u16],

@@ -1,5 +1,6 @@
-//! Sparse rows: of each transaction the others to which a reads-from pair or a derived link leads, ascending, each with the least
-//! cost of a link there; session pairs are told by where they end. N * N steps for N transactions, row by row in threads.
+//! Sparse rows: for each transaction the others to which a reads-from pair or a derived link leads, ascending, each with the
+//! least cost of a link there. Session pairs are described by the end of their range. It takes N * N steps for N transactions,
+//! row by row in threads.
 ghost use Rattle.std.specs.Prelude.{◌≡◌, ◌<◌, ◌≤◌, length, IfOk};
 ghost use Rattle.tcc_txn.specs.declared.limits.TheConstants.{MAX_COUNT};
 ghost use Rattle.tcc_reads.specs.History.{count};
@@ -17,7 +18,7 @@ use tcc_graph::Graph;
 use tcc_near::{NONE, Near};
 use tcc_txn::NoMemory;
 
-/// Where the numbers end that session pairs lead to from `u`.
+/// The end of the numbers that session pairs lead to from `u`.
 fn session_end(graph: &Graph, u: u32) -> u32
     requires { u < count graph.now }
     ensures { IsEnd graph.now u result }
@@ -26,7 +27,7 @@ fn session_end(graph: &Graph, u: u32) -> u32
     end
 }
 
-/// Where the numbers end that session pairs lead to, for each transaction.
+/// The end of the numbers that session pairs lead to, for each transaction.
 pub(crate) fn session_ends(alloc: Global, graph: &Graph) -> Result<Vec<u32>, NoMemory>
     ensures { IfOk result (λ ends. HasEnds graph.now ends.items) }
 {
@@ -37,8 +38,8 @@ pub(crate) fn session_ends(alloc: Global, graph: &Graph) -> Result<Vec<u32>, NoM
     Ok(ends)
 }
 
-/// The transactions to which a reads-from pair or a derived link leads from `u`, ascending, each with what the cheapest link
-/// there costs. The row of costs is worked out from the steps and the prices from `u`, and let go.
+/// The transactions to which a reads-from pair or a derived link leads from `u`, ascending, each with the cost of the cheapest
+/// link there. The row of costs is computed from the steps and the prices from `u`, and dropped.
 fn others_row(
     alloc: Global,
     graph: &Graph,
@@ -63,7 +64,7 @@ fn others_row(
     Ok(Row::new(others))
 }
 
-/// For each transaction those that read from it or to which it has a price, ascending, each with what a link there costs.
+/// For each transaction those that read from it or to which it has a price, ascending, each with the cost of a link there.
 pub(crate) fn other_rows(
     rt: &(impl Threads + Sync),
     alloc: Global,

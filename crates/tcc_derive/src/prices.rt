@@ -1,5 +1,6 @@
 //! The edge weights of links between transactions at a level: a dense row of prices, and a sparse row of links, for each
-//! transaction. A price is a look at a cell, and a cost a binary search in a row, for N transactions log N steps.
+//! transaction. A price is a look-up of a cell. A cost is a binary search in a row, which takes log N steps for N
+//! transactions.
 ghost use Rattle.std.specs.Prelude.{◌≡◌, ◌<◌, ◌≤◌, ◌+◌, ◌∷◌, ◌↔◌, true, [], length, All};
 ghost use Rattle.std.specs.List.{AllPairs};
 ghost use Rattle.tcc_near.specs.WalkLengths.{least_in};
@@ -24,7 +25,7 @@ pub struct Prices {
     pub(crate) limit: u16,
     /// The links other than session links that cost at most the limit, a row for each row of others.
     pub(crate) by_class: Vec<ByClass>,
-    /// Whether none costs more.
+    /// Whether no link costs more than the limit.
     pub(crate) whole: bool,
 }
 
@@ -58,8 +59,8 @@ impl Prices {
         self.prices.len() as u32
     }
 
-    /// The least cost of a derived link from `b` to `a`, over all keys and readers; none where there is no reason. It is for
-    /// those who ask for one price: whoever goes through many takes `prices`.
+    /// The least cost of a derived link from `b` to `a`, over all keys and readers; none if there is no reason. It is for a
+    /// single price: whoever goes through many takes `prices`.
     pub fn price(&self, b: u32, a: u32) -> Option<u32>
         requires from { b < length self.now.prices }
         requires to { a < length self.now.prices }
@@ -81,8 +82,8 @@ impl Prices {
         cost_among(self.others[u as usize].as_slice(), v)
     }
 
-    /// The first number with a session pair from `u`, and one past the last one, all between them having one too; both
-    /// `u + 1` where there is none.
+    /// The range of the numbers with a session pair from `u`: its first number, and one past its last. Both are `u + 1` if
+    /// there is none.
     pub fn later(&self, u: u32) -> (u32, u32)
         requires { u < length self.now.prices }
         ensures first { result.0 ≡ u + 1 }
@@ -94,8 +95,8 @@ impl Prices {
         (u + 1, end)
     }
 
-    /// The transactions that links other than session links lead to from `u`, ascending, those with a reads-from pair from
-    /// `u` or a price: each with the least cost of a link there.
+    /// The transactions that links other than session links lead to from `u`, ascending: those with a reads-from pair from `u`
+    /// or a price. Each has the least cost of a link there.
     pub fn others(&self, u: u32) -> &[(u32, u32)]
         requires { u < length self.now.prices }
         ensures value { result.now ≡ others_at self.now u }
@@ -104,23 +105,23 @@ impl Prices {
         self.others[u as usize].as_slice()
     }
 
-    /// What links cost at most that `by_class` has: what the least of the cycles costs that a walk makes, or a walk and one
-    /// derived link back; 64 where there is none.
+    /// The highest cost of links that `by_class` has: the least cost of the cycles that a walk makes, or a walk and one
+    /// derived link back; 64 if there is none.
     pub fn limit(&self) -> u16
         ensures { result ≡ self.now.limit }
     {
         self.limit
     }
 
-    /// Whether no link costs more than `limit()`, but for session links, which cost 1.
+    /// Whether no link costs more than `limit()`. Session links cost 1.
     pub fn is_whole(&self) -> bool
         ensures { (result ≡ true) ↔ AreWithin self.now.limit self.now.others }
     {
         self.whole
     }
 
-    /// Of the links other than session links from `u`, those that cost at most `limit()`, by classes of cost: for a small
-    /// cost that many of them have, where they lead is marked in a row; the others stand one by one, in ascending cost.
+    /// The links other than session links from `u` that cost at most `limit()`, by classes of cost. For a small cost that many
+    /// of them have, what they lead to is marked in a row. The others are listed one by one, in ascending cost.
     pub fn by_class(&self, u: u32) -> &ByClass
         requires { u < length self.now.prices }
         ensures { IsByClass self.now u result.now }
@@ -128,7 +129,7 @@ impl Prices {
         &self.by_class[u as usize]
     }
 
-    /// What derived links from `b` to each transaction cost, `NONE` where there is none.
+    /// What derived links from `b` to each transaction cost, `NONE` if there is none.
     pub fn prices(&self, b: u32) -> &[u16]
         requires { b < length self.now.prices }
         ensures value { result.now ≡ row_of self.now.prices b }
@@ -138,7 +139,7 @@ impl Prices {
     }
 }
 
-/// What stands beside a number, in a list of ascending numbers; none where it doesn't stand there.
+/// The value beside a number, in a list of ascending numbers; none if the list lacks it.
 fn cost_among(others: &[(u32, u32)], v: u32) -> Option<u32>
     requires { AllPairs (λ p q. p.0 < q.0) others.now }
     ensures { result ≡ cost_among others.now v }
@@ -150,7 +151,7 @@ fn cost_among(others: &[(u32, u32)], v: u32) -> Option<u32>
     }
 }
 
-/// What stands in a row, as a number or none.
+/// The value of a row, as a number or none.
 fn cell(cost: u16) -> Option<u32>
     ensures { result ≡ least_in (cost ∷ []) 0 }
 {

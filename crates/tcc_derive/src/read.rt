@@ -1,7 +1,7 @@
 //! One read of a key.
 
-/// The transaction `reader` reads a key from the transaction `source`. All reads are gone through for each transaction, so they
-/// are held in as little memory as their numbers need.
+/// The transaction `reader` reads a key from the transaction `source`. All reads are visited for each transaction, so they
+/// take no more memory than their numbers need.
 #[derive(Clone, Copy, Drop)]
 pub(crate) struct Read {
     pub(crate) source: u16,

@@ -1,5 +1,6 @@
-//! Bit matrices of keys: from whom each transaction reads a key, as rows of marks. They are kept of keys of which transactions read
-//! many values: of a key with more reads than half the words of its matrix, in N + R steps for N transactions and R reads.
+//! Bit matrices of keys: the sources from which each transaction reads a key, as rows of marks. They are kept for keys of
+//! which transactions read many values: for a key with more reads than half the words of its matrix. Making one takes N + R
+//! steps for N transactions and R reads.
 ghost use Rattle.std.specs.Prelude.{◌≡◌, ◌<◌, ◌≤◌, ◌⊎◌, ◌↔◌, ℕ, true, length, All, Contains, IfOk};
 ghost use Rattle.tcc_bits.specs.Bits.{is_marked, words_for};
 ghost use Rattle.tcc_derive.specs.private.Sources.{AreByReader, AreSources, HaveSources};
@@ -10,7 +11,7 @@ use std::alloc::Global;
 use tcc_bits::{Row, mark_each, words_for};
 use tcc_txn::{ListOf, NoMemory};
 
-/// A key's rows of marks, one for each transaction: from whom it reads the key; or none at all.
+/// A key's rows of marks, one for each transaction, with the sources from which it reads the key; or no rows.
 pub(crate) type Sources = ListOf<Row<u64>>;
 
 /// The sources of a key's reads, a bucket for each transaction that may read it.
@@ -50,7 +51,7 @@ fn sources_of(alloc: Global, reads: &[Read], count: usize) -> Result<Sources, No
     Ok(Sources::new(rows))
 }
 
-/// The rows of marks of a key with these reads, where it has more reads than half the words of all these rows; else none.
+/// The rows of marks of a key with these reads, if it has more reads than half the words of all these rows; else none.
 fn sources_at(alloc: Global, reads: &[Read], count: usize) -> Result<Sources, NoMemory>
     requires sources { All (λ r. r.source < count) reads.now }
     requires readers { All (λ r. r.reader < count) reads.now }
@@ -63,7 +64,7 @@ fn sources_at(alloc: Global, reads: &[Read], count: usize) -> Result<Sources, No
     }
 }
 
-/// The rows of marks of each key, none of one that has few reads.
+/// The rows of marks of each key, or none for a key with few reads.
 pub(crate) fn source_table(
     alloc: Global,
     reads: &[Row<Read>],

@@ -1,4 +1,4 @@
-//! The keys that each transaction writes: the lists of writers by key, turned round in a step for each write (bucket sort).
+//! The keys that each transaction writes: the lists of writers by key, inverted in a step for each write (bucket sort).
 ghost use Rattle.std.specs.Prelude.{◌<◌, length, All, Contains, OnOk, IfOk};
 ghost use Rattle.tcc_derive.specs.{private.Buckets.Puts, private.KeyTables.IsWritesOf};
 

@@ -1,4 +1,4 @@
-//! The examples that stand in the doc comments of public calls: each is the body of the function here that is named for it.
+//! The examples in the doc comments of public calls: each is the body of the function here that is named after the call.
 
 use anyhow::Result;
 use std::alloc::Global;
@@ -119,8 +119,8 @@ pub fn example_audit<W: Write>(
     Ok(())
 }
 
-/// What `tcc explain` prints for some records, and the status of the run. The certificate of the last answer goes to the
-/// file, if there is one.
+/// What `tcc explain` prints for some records, and the status of the run. The certificate of the last answer is written to
+/// the file, if there is one.
 pub fn example_run_explain<R: Read + Drop, W: Write, C: Write>(
     rt: &(impl Threads + Sync),
     alloc: Global,

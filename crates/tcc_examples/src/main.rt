@@ -1,4 +1,4 @@
-//! The examples of the doc comments of public calls, one after the other, and what each gives.
+//! The examples of the doc comments of public calls, one after the other, and the result of each.
 #![tactic(auto)]
 
 mod examples;

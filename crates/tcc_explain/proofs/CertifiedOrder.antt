@@ -82,7 +82,7 @@ module _ (h : History) (clocks : List (List ℕ)) (numbered : IsNumbered h) (are
   pub in_clock : (b c : ℕ) → IsCausalPair h b c → HasInClock h clocks b c
   in_clock b c p = record { kept = λ session of. clock_kept b c session p of; had = clock_had b c p }
 
-  -- what stands by its place at or before something that reaches c reaches c too
+  -- a transaction that by its place is at or before one that reaches c reaches c too
   reaches : (b c t : ℕ) → 0 < b → b < count h → IsBehind h c (owner h b) t → place h b ≤ place h t → IsReached h b c
   reaches b c t some below behind low = go (cases_order b t)
     where

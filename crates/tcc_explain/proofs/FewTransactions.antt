@@ -18,6 +18,6 @@ few_kept {X} p (x ∷ xs) = go (p x) (few_kept p xs)
     go true few = omega (arith, few)
     go false few = omega (arith, few)
 
--- one more than the transactions of the snapshot, at most
+-- at most one more than the transactions of the snapshot
 pub count_few : (s : Sessions) → count (history s) ≤ transaction_count s + 1
 count_few s = omega (arith, length-map (committed (stands s)) (entry_of (stands s)), few_kept is_committed (stands s), length-stands_from 0 (entries s))

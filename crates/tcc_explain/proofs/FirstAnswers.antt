@@ -1,4 +1,4 @@
--- A history has one first answer at most at a level.
+-- A history has at most one first answer at a level.
 use Rattle.std.proofs.Common.{ℕ, ◌≡◌, List, refl, ap}
 use Rattle.std.specs.Ordering.{nat_cmp}
 use Rattle.std.specs.Cmp.Lexicographic.{slice_cmp}

@@ -1,4 +1,4 @@
--- The answers of snapshots of which one continues the other.
+-- The answers of two snapshots, where one continues the other.
 use Rattle.std.proofs.Common.{ℕ, ◌≡◌, ◌≤◌, List, map, refl, subst}
 use Rattle.tcc_txn.specs.Snapshots.{Sessions}
 use Rattle.tcc_reads.specs.Sources.{history}

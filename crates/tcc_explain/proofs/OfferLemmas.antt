@@ -15,7 +15,7 @@ use Rattle.tcc_derive.specs.Prices.{Tables, IsPricesOf, IsLinkOf, IsCost, cost_a
 use Rattle.tcc_core.specs.Shares.{IsCycleCost}
 use Rattle.tcc_explain.specs.private.Capping.{IsAtMost}
 
--- so many links lead from a to b, and cost c together
+-- this many links lead from a to b, and cost c together
 pub record IsWay (j : Judged) (a : ℕ) (b : ℕ) (many : ℕ) (c : ℕ) : Type 0 where
   pub links : List Link
   pub long : length links ≡ many
@@ -48,7 +48,7 @@ closed t a b many c way same some j prices =
     let lead : LinksLead j a a w.links = subst (λ (z : ℕ). LinksLead j a z w.links) same w.lead in
     (a, w.links, (omega (arith, w.long, some), lead), w.costs)
 
--- ---- links that are a cycle still
+-- ---- links that are still a cycle
 
 -- of a cycle i links lead from its start to here, and a cheapest link at each costs no more
 abbrev pub IsAlong : Tables → List Link → ℕ → ℕ → ℕ → ℕ → Type 0
@@ -62,7 +62,7 @@ along_begin t links l rest start is from j s prices cycle =
     let same : start ≡ s = from ∙ lead.0 in
     (same, rw same cycle.1, omega arith)
 
--- what the cheapest link costs that leads where this one does
+-- the cost of the cheapest link that leads where this one does
 pub cheapest : (j : Judged) (t : Tables) (l : Link) (u v : ℕ) → IsPricesOf j t → IsLinkOf j u v l → IsAtMost (cost_at t u v) (link_cost l)
 cheapest j t l u v prices is = go (cost_at t u v) (prices.costed u v (omega (arith, below.0, is.from)) (omega (arith, below.1, is.to)))
   where
@@ -110,7 +110,7 @@ module _ (t : Tables) (links : List Link) (start here i total : ℕ) (along : Is
       some_le : (c : ℕ) → IsAtMost (Some c) (link_cost x) → c ≤ link_cost x
       some_le c (d, same, less) = let equal : c ≡ d = cc in omega (arith, less, equal)
 
-  -- what is spent with one more link is no more than all links cost
+  -- the cost so far with one more link is no more than that of all links
   pub within_all : (u v c : ℕ) → u ≡ link_from x → v ≡ link_to x
       → ((j : Judged) (l : Link) → IsPricesOf j t → IsLinkOf j u v l → IsAtMost (Some c) (link_cost l))
       → (j : Judged) (s : ℕ) → IsPricesOf j t → IsCycle j s links → total + c ≤ cost links

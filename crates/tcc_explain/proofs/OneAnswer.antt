@@ -1,4 +1,4 @@
--- A history has one answer at most at a level, with one certificate: its tables are settled entry by entry.
+-- A history has at most one answer at a level, with one certificate: its tables are determined entry by entry.
 use Rattle.std.proofs.Common.{ℕ, suc, ◌≡◌, ◌<◌, ◌≤◌, ◌+◌, ◌-◌, ◌⊎◌, inl, inr, List, [], ◌∷◌, length, get_or, Some, refl, sym, ◌∙◌, ap, ap₂, subst, arith}
 use Rattle.tcc_reads.specs.History.{History, count}
 use Rattle.tcc_graph.specs.Levels.{Judged, IsAllowedWalk}
@@ -33,7 +33,7 @@ same_table : (table other : List (List ℕ)) → length table ≡ length other �
 same_table table other long wide same =
     same_list [] table other long (λ i low. same_list 0 (row_of table i) (row_of other i) (wide i low) (λ k within. same i k low within))
 
--- ---- what stands in a table
+-- ---- what is in a table
 
 -- the size n is the least that something has, where that is below the cap; else the cap
 abbrev IsCapped : {X : Type 0} → (X → Type 0) → (X → ℕ) → ℕ → ℕ → Type 0

@@ -21,7 +21,7 @@ use Rattle.tcc_explain.specs.Keys.{NamesKey, NamesKeys, HasNames}
 abbrev IsNamedRead : List ℕ × ℕ → Type 0
 IsNamedRead read = IsKey read.0
 
--- ---- the stands
+-- ---- transactions with their places (`Stand`)
 
 in_session : (session : ℕ) (name : List ℕ) (from : ℕ) (txns : List Transaction) → All NamesKeys txns
     → All (λ (x : Stand). NamesKeys x.txn) (stands_in session name from txns)

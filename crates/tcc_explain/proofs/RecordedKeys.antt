@@ -1,4 +1,4 @@
--- What records finish has names for keys: a field that is to be a key is taken where it is a name.
+-- What records finish has names for keys: a field for a key is accepted only where it is a name.
 use Rattle.std.proofs.Common.{ℕ, ◌≡◌, ◌==◌, Bool, true, false, cond, List, [], ◌∷◌, ◌++◌, length}
 use Rattle.std.proofs.Common.{All, Option, None, Some, Result, Ok, Err, refl, sym, subst, ◌∙◌}
 use Rattle.std.proofs.Common.{arith}
@@ -33,15 +33,15 @@ use Rattle.tcc_rows.specs.declared.fault.RowFaultKind.TheVariants as kind
 use Rattle.tcc_cert.specs.Texts.{IsKey}
 use Rattle.tcc_explain.specs.Keys.{NamesKey, NamesKeys, HasNames}
 
--- what a function takes
+-- the type of the argument of a function
 abbrev taken_by : {A B : Type 0} → (A → B) → Type 0
 taken_by {A} {B} f = A
 
--- a line, which has no name outside of its crate
+-- a line, which has no name outside its crate
 abbrev Line : Type 0
 Line = taken_by begins
 
--- ---- what is asked of a line
+-- ---- what is required of a line
 
 -- what a session does by the line
 abbrev LineNames : Line → Type 0
@@ -274,7 +274,7 @@ none_named =
     (sym (no_entries (finite.entries finite.empty) (sym (finite.len-entries finite.empty) ∙ finite.len-empty name_cmp (List Transaction))))
     (All-nil AreNamed)
 
--- what the first items of a text finish, however many, within either limits
+-- what the first items of a text finish, however many, within the default or the large limits
 pub recorded_within : (limits : Limits) (text : List ℕ) (n : ℕ) → HasNames (finished_in (take n (answers_within limits text).items))
 recorded_within limits text n =
     fold_named (take n (answers_within limits text).items) finite.empty none_named

@@ -58,7 +58,7 @@ far_table j cap costs are = record {
 
 -- ---- distances
 
--- distances at a level that they name
+-- distances at the level that they name
 pub own_level : (h : History) (level : Level) (near : NearTable) → IsNearOf (judged h level) near
     → IsNearOf (judged h near.level) near
 own_level h level near is = subst (λ (l : Level). IsNearOf (judged h l) near) (sym is.level) is

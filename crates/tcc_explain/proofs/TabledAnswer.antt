@@ -1,4 +1,4 @@
--- Each first answer has its tables: those that its history gives.
+-- Each first answer has its tables: those that its history determines.
 use Rattle.std.proofs.Common.{ℕ, ◌≡◌, ◌<◌, ◌+◌, ◌-◌, inl, inr, List, [], length, map, get_or, Some, refl, sym, ◌∙◌, ap, subst, arith}
 use Rattle.std.specs.List.{range_with_len}
 use Rattle.std.proofs.Math.Nat.{zero-add}
@@ -22,7 +22,7 @@ use Rattle.tcc_explain.proofs.TabledWalks.{IsCapped, shortest_is}
 use Rattle.tcc_explain.proofs.TabledRoutes.{distance_is}
 use Rattle.tcc_explain.proofs.TabledClocks.{last_is}
 
--- a table of so many rows, each with numbers from one on
+-- a table of this many rows, each with numbers from one on
 table_at : (n : ℕ) (from wide : ℕ → ℕ) (cell : ℕ → ℕ → ℕ) (a i v : ℕ) → a < n → i < wide a → from a + i ≡ v
     → entry (map (λ a. map (cell a) (range_with_len (from a) (wide a))) (range_with_len 0 n)) a i ≡ cell a v
 table_at n from wide cell a i v low within at =

@@ -44,7 +44,7 @@ had test size (m ∷ ns) = go (test m) refl (greatest test size ns) (had test si
     go true e most rest = either most e rest (cases_lt most (size m))
     go false e most rest = subst (λ (z : ℕ). IsHad test size (m ∷ ns) z) (omega arith) (later most rest)
 
--- ---- who is behind a transaction
+-- ---- the transactions from which one is reached
 
 module _ (h : History) (t session : ℕ) where
   behind_by : (b : ℕ) → Contains (numbers h) b → is_behind h t session b ≡ true → IsBehind h t session b

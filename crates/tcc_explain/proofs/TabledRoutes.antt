@@ -19,7 +19,7 @@ use Rattle.tcc_explain.proofs.TabledWalks.{any_found, any_of, in_range, below_ra
 
 -- ---- links
 
--- a link of so many steps
+-- a link of this many steps
 abbrev IsLinkOf : Judged → ℕ → ℕ → ℕ → Type 0
 IsLinkOf j n u v = (l : Link) × (link_from l ≡ u) × (link_to l ≡ v) × IsLink j l × (link_cost l ≡ n)
 
@@ -67,7 +67,7 @@ link_is j (link.Derived b a x c walk) ((apart, (to, reader, read), (from, wrote)
 
 -- ---- routes
 
--- so many links of so many steps over numbers from s upward
+-- this many links with this many steps over numbers from s upward
 abbrev AreLinksOf : Judged → ℕ → ℕ → ℕ → ℕ → ℕ → Type 0
 AreLinksOf j s k n u v = (links : List Link) × LinksLead j u v links × All (IsUpward s) links × (cost links ≡ n) × (length links ≡ k)
 

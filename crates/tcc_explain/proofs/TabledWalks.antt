@@ -70,7 +70,7 @@ least_is test (suc cap) = go (test 0) refl (least_is (λ n. test (suc n)) cap)
         up zero passes = absurd (true≢false (sym passes ∙ not_here))
         up (suc m) passes = let more = none m passes in omega arith
 
--- a test that tells the sizes of something finds the least
+-- a test that holds of the sizes of something finds the least
 pub capped_is : {X : Type 0} (Is : X → Type 0) (size : X → ℕ) (test : ℕ → Bool) → ((n : ℕ) → test n ≡ true → (x : X) × Is x × (size x ≡ n))
     → ((x : X) → Is x → test (size x) ≡ true) → (cap : ℕ) → IsCapped Is size cap (least_below test cap)
 capped_is {X} Is size test sound whole cap = go (least_below test cap) (least_is test cap)

@@ -4,16 +4,16 @@ use Rattle.tcc_graph.specs.Levels.{atomically, causally}
 use Rattle.tcc_graph.proofs.Worked.{stale_read}
 use Rattle.tcc_explain.specs.Tabled.{clock_table, far_table, near_table}
 
--- a/1 writes x, and a/2 reads the initial x: from `init` both are one step away, from a/1 a/2 is, and each other walk has as many steps
--- as the cycle, or there is none
+-- a/1 writes x, and a/2 reads the initial x. From `init` both are one step away, and from a/1 a/2 is. Each other walk has as many steps as
+-- the cycle, or there is none.
 stale_read-near : near_table (causally stale_read) 3 ≡ (3 ∷ 1 ∷ 1 ∷ []) ∷ (3 ∷ 3 ∷ 1 ∷ []) ∷ (3 ∷ 3 ∷ 3 ∷ []) ∷ []
 stale_read-near = refl
 
--- the cycle goes from `init` by a session pair to a/1, and by a derived link of two steps back
+-- the cycle goes from `init` by a session pair to a/1, and back by a derived link of two steps
 stale_read-far : far_table (causally stale_read) 3 ≡ (3 ∷ 1 ∷ 1 ∷ []) ∷ (3 ∷ 1 ∷ []) ∷ (3 ∷ []) ∷ []
 stale_read-far = refl
 
--- what is less than the cap is told
+-- what is less than the cap is in the table
 stale_read-far-4 : far_table (causally stale_read) 4 ≡ (3 ∷ 1 ∷ 1 ∷ []) ∷ (4 ∷ 1 ∷ []) ∷ (4 ∷ []) ∷ []
 stale_read-far-4 = refl
 
@@ -21,6 +21,6 @@ stale_read-far-4 = refl
 stale_read-near-atomic : near_table (atomically stale_read) 3 ≡ (3 ∷ 1 ∷ 1 ∷ []) ∷ (3 ∷ 3 ∷ 1 ∷ []) ∷ (3 ∷ 3 ∷ 3 ∷ []) ∷ []
 stale_read-near-atomic = refl
 
--- of its one session nobody is behind `init` and a/1, and a/1 is behind a/2
+-- in its one session no transaction reaches `init` or a/1, and a/1 reaches a/2
 stale_read-clocks : clock_table stale_read ≡ (0 ∷ []) ∷ (0 ∷ []) ∷ (1 ∷ []) ∷ []
 stale_read-clocks = refl

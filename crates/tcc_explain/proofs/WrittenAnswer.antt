@@ -23,7 +23,7 @@ use Rattle.tcc_graph.specs.declared.link.Link.TheVariants as link
 use Rattle.tcc_graph.specs.Clocks.{IsClocksOf, IsLast, IsBehind}
 use Rattle.tcc_cert.specs.Tables.{entry, HasSize, HasRows, HasFarSize, IsCapped}
 use Rattle.tcc_cert.specs.CycleRules.{IsStepBelow, IsLinkBelow}
-use Rattle.tcc_cert.specs.declared.ranges.Scale.TheVariants.{Small}
+use Rattle.tcc_cert.specs.declared.ranges.TextFormat.TheVariants.{Small}
 use Rattle.tcc_cert.specs.Texts.{IsNumber, HasStepText, HasLinkText, HasClocksText, HasOrderText, HasCycleText, HasText, certificate_text}
 use Rattle.tcc_cert.specs.Reading.{certificate_read}
 use Rattle.tcc_cert.specs.declared.version.Version.TheVariants.{Two}
@@ -42,7 +42,7 @@ use Rattle.tcc_explain.proofs.ReadKeys.{key_named}
 use Rattle.tcc_slices.proofs.Labels.{place_few}
 use Rattle.tcc_explain.proofs.FewTransactions.{count_few}
 
--- a table whose rows are as long, in other words
+-- a table whose rows are as long, stated in another way
 rows_sized : (rows columns : ℕ) (table : List (List ℕ)) → HasSize rows columns table → HasRows rows (λ t. columns) table
 rows_sized rows columns table size = record { long = size.long; wide = λ t low. size.wide t [] (omega (arith, size.long)) }
 

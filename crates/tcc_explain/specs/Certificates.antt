@@ -1,5 +1,5 @@
--- The tables in an answer's certificate: the distances of a cycle, capped at what it costs, and the clocks of an order;
--- and how transactions are numbered where clocks can be checked.
+-- The tables in an answer's certificate: the distances of a cycle, capped at its cost, and the clocks of an order. Also how transactions
+-- are numbered where clocks can be checked.
 use Rattle.std.specs.Prelude.{ℕ, ◌<◌, ◌≤◌, ◌≡◌, ◌⊎◌, List, [], length, Some}
 use Rattle.tcc_reads.specs.History.{History, count, owner, place}
 use Rattle.tcc_graph.specs.Levels.{Judged, IsAllowedWalk}
@@ -12,23 +12,23 @@ use Rattle.tcc_core.specs.Shares.{IsCappedDistance}
 use Rattle.tcc_cert.specs.Tables.{entry, far_entry, HasSize, HasFarSize}
 use Rattle.tcc_cert.specs.declared.version.Version.TheVariants.{Two}
 
--- the least length of an allowed walk from a to c where it is below the cap; the cap where there is none or it is not
+-- the least length of an allowed walk from a to c where it is below the cap, else the cap
 abbrev pub IsCappedShortest : Judged → ℕ → ℕ → ℕ → ℕ → Type 0
 IsCappedShortest j cap a c n =
     ((n < cap) × IsShortest j a c n) ⊎ ((n ≡ cap) × ((walk : List Step) → IsAllowedWalk j a c walk → cap ≤ length walk))
 
--- from each transaction to each, itself among them, the least length of an allowed walk, capped
+-- from each transaction to each, itself included, the least length of an allowed walk, capped
 pub record IsNearTable (j : Judged) (cap : ℕ) (table : List (List ℕ)) : Type 0 where
   pub size : HasSize (count j.history) (count j.history) table
   pub exact : (a : ℕ) (c : ℕ) → a < count j.history → c < count j.history → IsCappedShortest j cap a c (entry table a c)
 
--- from each transaction to each from itself upward, the least cost of a route over numbers from there upward, capped
+-- from each transaction to itself and each above it, the least cost of a route over numbers from there upward, capped
 pub record IsFarTable (j : Judged) (cap : ℕ) (table : List (List ℕ)) : Type 0 where
   pub size : HasFarSize Two (count j.history) table
   pub exact : (s : ℕ) (v : ℕ) → s ≤ v → v < count j.history
       → IsCappedDistance j s v (Some cap) (Some (far_entry Two table s v))
 
--- the clocks by which an order can be checked: at `Atomic` nothing asks for them, and there are none
+-- the clocks by which an order can be checked: at `Atomic` they are not needed, and there are none
 abbrev pub IsClocksAt : Level → History → List (List ℕ) → Type 0
 IsClocksAt Causal h clocks = IsClocksOf h clocks
 IsClocksAt Atomic h clocks = clocks ≡ []

@@ -1,4 +1,4 @@
--- What is answered for a snapshot at a level.
+-- The answer for a snapshot at a level.
 use Rattle.std.specs.Prelude.{ℕ, ◌≡◌, [], length}
 use Rattle.tcc_txn.specs.Snapshots.{Sessions}
 use Rattle.tcc_reads.specs.Faults.{read_faults}
@@ -12,8 +12,8 @@ use Rattle.tcc_explain.specs.Certificates.{IsNearTable, IsFarTable, IsClocksAt}
 use Rattle.tcc_answer.specs.declared.answer.Answer.{Answer}
 use Rattle.tcc_answer.specs.declared.answer.Answer.TheVariants as answer
 
--- the first answer for the history at the level, with its labels: without a cycle the first commit order, with the
--- clocks; else the first least cycle, with the distances, each capped at what the cycle costs
+-- The first answer for the history at the level, with its labels. Without a cycle it is the first commit order, with the clocks. Else it is
+-- the first least cycle, with the distances, each capped at the cost of the cycle.
 abbrev pub IsAnswerOfHistory : Judged → Answer → Type 0
 IsAnswerOfHistory j (answer.Commit c) =
     first.IsFirstAnswer j (first.Order c.order) × (c.level ≡ j.level) × (c.sessions ≡ length j.history.sessions)

@@ -1,4 +1,4 @@
--- The keys in a snapshot: names, as in all that records finish.
+-- The keys in a snapshot: names, as in everything that records finish.
 use Rattle.std.specs.Prelude.{All}
 use Rattle.std.specs.FinMap.{entries}
 use Rattle.tcc_txn.specs.Snapshots.{Sessions}

@@ -1,4 +1,4 @@
--- The tables of certificates, as a history gives them: what an answer has besides, where nobody has worked them out.
+-- The tables of certificates, as a history determines them: what an answer has besides, even where the tables were not worked out.
 use Rattle.std.specs.Prelude.{ℕ, zero, suc, ◌+◌, ◌-◌, Bool, ◌&&◌, ◌||◌, ◌==◌, not, nat_lt, nat_le, max, if◌then◌else◌, List, [], ◌∷◌, length, map}
 use Rattle.std.specs.List.{list_any, range_with_len}
 use Rattle.tcc_reads.specs.History.{History, count, owner, place}
@@ -16,17 +16,17 @@ abbrev pub least_below : (ℕ → Bool) → ℕ → ℕ
 least_below test zero = 0
 least_below test (suc limit) = if test 0 then 0 else suc (least_below (λ n. test (suc n)) limit)
 
--- so many steps lead from a to c
+-- this many steps lead from a to c
 abbrev pub steps_lead : History → ℕ → ℕ → ℕ → Bool
 steps_lead h zero a c = a == c
 steps_lead h (suc n) a c = list_any (λ b. causal_pair h a b && steps_lead h n b c) (numbers h)
 
--- a walk of so many steps is one that the level allows
+-- a walk of this many steps is one that the level allows
 abbrev pub allows : Level → ℕ → Bool
 allows Causal n = nat_lt 0 n
 allows Atomic n = n == 1
 
--- an allowed walk of so many steps leads from a to c
+-- an allowed walk of this many steps leads from a to c
 abbrev pub has_walk : Judged → ℕ → ℕ → ℕ → Bool
 has_walk j n a c = allows j.level n && steps_lead j.history n a c
 
@@ -35,19 +35,19 @@ abbrev pub may_contradict : History → ℕ → ℕ → ℕ → Bool
 may_contradict h b a c =
     nat_lt a (count h) && nat_lt b (count h) && not (b == a) && list_any (λ x. writes h b x) (reads_from h a c)
 
--- a link of so many steps leads from u to v
+-- a link of this many steps leads from u to v
 abbrev pub has_link : Judged → ℕ → ℕ → ℕ → Bool
 has_link j n u v =
     ((n == 1) && causal_pair j.history u v)
     || list_any (λ c. may_contradict j.history u v c && has_walk j (n - 1) u c) (numbers j.history)
 
--- so many links that together have n steps lead from u to v, over numbers from s upward
+-- this many links that together have n steps lead from u to v, over numbers from s upward
 abbrev pub links_lead : Judged → ℕ → ℕ → ℕ → ℕ → ℕ → Bool
 links_lead j s zero n u v = (n == 0) && (u == v)
 links_lead j s (suc links) n u v =
     list_any (λ w. nat_le s w && list_any (λ q. has_link j q u w && links_lead j s links (n - q) w v) (range_with_len 0 (n + 1))) (numbers j.history)
 
--- a route of so many steps leads from s to v over numbers from s upward
+-- a route of this many steps leads from s to v over numbers from s upward
 abbrev pub has_route : Judged → ℕ → ℕ → ℕ → Bool
 has_route j n s v = list_any (λ links. links_lead j s (suc links) n s v) (range_with_len 0 n)
 
@@ -59,11 +59,11 @@ near_table j cap = map (λ a. map (λ c. least_below (λ n. has_walk j n a c) ca
 abbrev pub far_table : Judged → ℕ → List (List ℕ)
 far_table j cap = map (λ s. map (λ v. least_below (λ n. has_route j n s v) cap) (range_with_len s (count j.history - s))) (numbers j.history)
 
--- b is a committed transaction of the session, from which t is reached
+-- b is a committed transaction of the session, and t is reached from it
 abbrev pub is_behind : History → ℕ → ℕ → ℕ → Bool
 is_behind h t session b = nat_lt 0 b && (owner h b == session) && list_any (λ n. steps_lead h (suc n) b t) (numbers h)
 
--- the greatest of the numbers that pass have; 0 where none passes
+-- the greatest value of the numbers that pass; 0 where none passes
 abbrev pub greatest : (ℕ → Bool) → (ℕ → ℕ) → List ℕ → ℕ
 greatest test size [] = 0
 greatest test size (n ∷ ns) = max (if test n then size n else 0) (greatest test size ns)

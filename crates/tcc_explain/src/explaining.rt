@@ -29,8 +29,8 @@ use tcc_txn::{NoMemory, Snapshot};
 
 /// What the searches have found where there is a cycle.
 #[derive(Drop)]
-struct Searched {
-    /// What a least cycle costs.
+struct SearchedCycle {
+    /// The cost of a least cycle.
     cost: u32,
     /// The lowest start from which a least cycle leads, over numbers not below it.
     start: u32,
@@ -38,8 +38,8 @@ struct Searched {
     rows: Vec<PackedRow>,
 }
 
-/// Searches from all starts, by so many workers, where there is a cycle. They begin with what a cycle costs that goes where
-/// the links of an earlier one go.
+/// Searches from all starts, by `workers` workers, where there is a cycle. They begin with the cost of a cycle that goes
+/// where the links of an earlier one go.
 fn search_all<G: Gate>(
     rt: &(impl Threads + Sync),
     alloc: Global,
@@ -48,7 +48,7 @@ fn search_all<G: Gate>(
     earlier: &[Link],
     workers: Workers,
     gate: &G,
-) -> Result<Searched, NoMemory>
+) -> Result<SearchedCycle, NoMemory>
     requires cycle { (j : Judged) × IsNearOf j near.now × IsPricesOf j prices.now × HasCycle j }
     ensures { (j : Judged) → IsPricesOf j prices.now → HasCycle j → IfOk result (IsSearched j) }
 {
@@ -60,14 +60,15 @@ fn search_all<G: Gate>(
     let Some(start) = found.first else {
         unreachable!()
     };
-    Ok(Searched {
+    Ok(SearchedCycle {
         cost,
         start,
         rows: found.rows,
     })
 }
 
-/// The first of the least cycles with its tables. These are the rows of the distances and of the searches, as they lie.
+/// The first of the least cycles with its tables. These are the rows of the distances and of the searches, as they are
+/// stored.
 fn anomaly<G: Gate>(
     rt: &(impl Threads + Sync),
     alloc: Global,
@@ -159,10 +160,10 @@ pub(crate) fn labelled_history(
     Ok((graph, labels))
 }
 
-/// The first answer for the history of a snapshot at a level: its first commit order, or the first of its least cycles
-/// where there is no commit order, with its certificate; or all its read faults, where there are some. The answer is the
-/// same for every number of workers, and whatever the order in which they search. They search only where there is
-/// a cycle, and the gate is called before each start that they take.
+/// The first answer for the history of a snapshot at a level, with its certificate. That is its first commit order, or the
+/// first of its least cycles where there is no commit order. Where there are read faults, the result is all of them. The
+/// answer is the same for every number of workers, and whatever the order in which they search. They search only where
+/// there is a cycle, and the gate is called before each start that they take.
 ///
 /// ```rust
 /// let answer = explain(rt, alloc, snapshot, Level::Causal, workers, &OpenGate)?;

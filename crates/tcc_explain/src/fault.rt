@@ -16,7 +16,7 @@ pub enum NextFault {
     /// A growth was refused.
     #[error("out of memory")]
     NoMemory,
-    /// This link of the earlier anomaly, the first, counted from 1, is none of the snapshot's.
+    /// This link of the earlier anomaly, the first, counted from 1, is not a link of the snapshot's history.
     #[error("link {link} of the earlier anomaly is none of this history's")]
     NotNested { link: usize },
 }

@@ -12,9 +12,10 @@ use tcc_slices::{carried, first_missing};
 use tcc_steal::Gate;
 use tcc_txn::Snapshot;
 
-/// The answer that `explain` gives for the history of a snapshot at the level of an earlier anomaly, where each link of that
-/// anomaly, found by the labels of its transactions, is a link of this history: the search begins with what such a cycle
-/// costs now. Else all read faults of the snapshot, where there are some, or the first link that isn't one, counted from 1.
+/// The answer that `explain` gives for the history of a snapshot at the level of an earlier anomaly. Each link of that
+/// anomaly, found by the labels of its transactions, has to be a link of this history: the search begins with what such a
+/// cycle costs now. Else the result is all read faults of the snapshot, where there are some, or the first link that isn't
+/// one, counted from 1.
 pub fn explain_next<G: Gate>(
     rt: &(impl Threads + Sync),
     alloc: Global,

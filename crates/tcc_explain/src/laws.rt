@@ -1,5 +1,5 @@
-//! The laws of answers: their certificates keep the rules and have texts, a history has one first answer at most at a level,
-//! and an anomaly stays one where a snapshot goes on.
+//! The laws of answers. Their certificates keep the rules and have texts, a history has at most one first answer at a
+//! level, and an anomaly stays one where a snapshot goes on.
 ghost use Rattle.std.specs.Prelude.{◌≡◌, ◌≤◌, ℕ, List, Ok, length, take};
 ghost use Rattle.tcc_rows.specs.{Answers.answers_of, Items.finished_in};
 ghost use Rattle.tcc_txn.specs.{Finished.KeepsLimits, Snapshots.Sessions};
@@ -15,8 +15,8 @@ ghost use Rattle.tcc_explain.specs.{Explained.IsAnswerOfHistory, Explained.IsBar
 ghost use Rattle.tcc_explain.specs.Certificates.{IsNearTable, IsFarTable, IsClocksAt, IsNumbered};
 ghost use Rattle.tcc_explain.specs.declared.fault.NextFault.TheVariants as refusal;
 
-/// A least cycle with the distances, capped at what it costs, is certified; so is a commit order with the clocks of the
-/// level, where transactions are numbered as in each snapshot's history.
+/// A least cycle with the distances, capped at its cost, is certified. So is a commit order with the clocks of the level,
+/// where transactions are numbered as in each snapshot's history.
 pub fn certificates()
     ensures cycle { (j : Judged) (s : ℕ) (links : List Link) (near far : List (List ℕ)) → IsLeastCycle j s links
         → IsNearTable j (cost links) near → IsFarTable j (cost links) far
@@ -33,7 +33,7 @@ pub fn certified()
         → Certifies (history s) (certificate_of a) }
 {}
 
-/// The certificate of the answer for a snapshot has a text, and that text is read as this certificate: where the snapshot
+/// The certificate of the answer for a snapshot has a text, and that text is read as this certificate, where the snapshot
 /// keeps the limits and its keys are names.
 pub fn written()
     ensures text { (s : Sessions) (level : Level) (a : Answer) → KeepsLimits s → HasNames s
@@ -43,15 +43,15 @@ pub fn written()
         → certificate_read (certificate_text (certificate_of a)) ≡ Ok (certificate_of a) }
 {}
 
-/// What the first items of a text finish, however many, has names for keys. That it keeps the limits says
+/// What the first items of a text finish, however many, has names for keys. That it keeps the limits is said by
 /// `tcc_rows::laws::finished_is_snapshot`.
 pub fn recorded()
     ensures { (text : List ℕ) (n : ℕ) → HasNames (finished_in (take n (answers_of text).items)) }
 {}
 
 /// A history has at most one first commit order at a level, and at most one first answer: either that order or its first
-/// cycle. And so there is at most one whole answer, with its labels and its certificate: whatever the number of workers,
-/// the order in which they search and the order in which records came.
+/// cycle. So there is at most one whole answer, with its labels and its certificate. It is the same whatever the number of
+/// workers, the order in which they search and the order in which records came.
 pub fn one_answer()
     ensures order { (j : Judged) (order other : List ℕ) → IsFirstOrder j order → IsFirstOrder j other → order ≡ other }
     ensures answer { (j : Judged) (some other : first.Answer) → first.IsFirstAnswer j some → first.IsFirstAnswer j other → some ≡ other }
@@ -62,15 +62,15 @@ pub fn one_answer()
         → certificate_of some ≡ certificate_of other }
 {}
 
-/// Each first answer has its tables, whether or not anybody worked them out: with those that its history gives it is the whole answer.
-/// And a whole answer is one without them too.
+/// Each first answer has its tables, whether or not they were worked out: with those that its history determines it is the
+/// whole answer. And a whole answer is one without them too.
 pub fn tabled()
     ensures whole { (j : Judged) (a : Answer) → IsBareAnswer j a → IsAnswerOfHistory j (with_tables j.history a) }
     ensures bare { (j : Judged) (a : Answer) → IsAnswerOfHistory j a → IsBareAnswer j a }
 {}
 
-/// Of two resolved snapshots of which the second continues the first, no link of the first one's anomaly is missed in the
-/// second; and at the level of that anomaly the second has an anomaly too, which has at most as many steps.
+/// Take two resolved snapshots, where the second continues the first. No link of the first one's anomaly is missing in the
+/// second. At the level of that anomaly the second has an anomaly too, which has at most as many steps.
 pub fn grown()
     ensures nested { (small large : Sessions) (level : Level) (a : LabelledCycle) (n : ℕ) → Grows small large
         → IsAnomalyOf (judged (history small) level) a → IsNextRefusal large a (refusal.NotNested n) → ⊥ }

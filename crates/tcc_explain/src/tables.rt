@@ -15,7 +15,7 @@ use tcc_near::Near;
 use tcc_order::clocks;
 use tcc_txn::NoMemory;
 
-/// Rows of steps as they lie.
+/// Rows of steps as they are stored.
 fn packed(alloc: Global, rows: Vec<Row<u16>>) -> Result<Vec<PackedRow>, NoMemory>
     ensures { IfOk result (λ packed. packed.items ≡ map (map value_in) rows.items) }
 {

@@ -16,7 +16,7 @@ use Rattle.tcc_first.specs.private.Starts.{IsFirstStart}
 use Rattle.tcc_first.specs.private.Picks.{EndsWay, IsFirstLast}
 use Rattle.tcc_first.proofs.Picking.{IsUnderWay, same_cost}
 
--- where the picked cycle starts the first of the least cycles does
+-- the first of the least cycles starts where the picked cycle does
 pub starts_there : (j : Judged) (s n : ℕ) (picks : List ℕ) → NoneBelow j n → IsLowestStart j n s → 0 < length picks → ArePicked j s s n picks → IsFirstStart j s n
 starts_there j s n [] none lowest some are = absurd (omega (arith, some))
 starts_there j s n (u ∷ picks) none lowest some (q, last, rest) = record {

@@ -1,4 +1,4 @@
--- Ways of two steps at most and cycles of three, by their links.
+-- Ways of at most two steps and cycles of three, by their links.
 use Rattle.std.proofs.Common.{ℕ, ◌≡◌, ◌≢◌, ◌<◌, ◌≤◌, ◌+◌, ◌-◌, ◌⊎◌, inl, inr, Bool, List, [], ◌∷◌, ◌++◌, length, length-append, refl, sym, ◌∙◌, ap, subst, arith}
 use Rattle.std.specs.Prelude.{◌↔◌, IsTrue, slice_index_or}
 use Rattle.std.specs.List.{Contains}
@@ -133,7 +133,7 @@ module _ (j : Judged) where
       )
 
   module _ (ordered : IsBySession j.history.entries) where
-    -- what leads by a pair to a number that isn't greater is read
+    -- a pair to a number that isn't greater is a read
     read_back : (u m : ℕ) → m ≤ u → IsCausalPair j.history u m → IsRead j.history u m
     read_back u m low (inr read) = read
     read_back u m low (inl p) = absurd (go (cases_lt 0 u))
@@ -222,7 +222,7 @@ pub around_below : (h : History) (n s : ℕ) → IsAround h n s → s < count h
 around_below h n s (inl (u, (x, read), up, way)) = read.1
 around_below h n s (inr (three, (b, (short, back), up))) = (pair_below h s b back).0
 
--- ---- what leads round, by its last link
+-- ---- the way round, by its last link
 pub pairs_way : (h : History) (n s u : ℕ) → HasPairs h n s u → IsWay h n s u
 pairs_way h n s u (inl here) = inl here
 pairs_way h n s u (inr (inl pair)) = inr (inl pair)

@@ -246,7 +246,7 @@ module _ (j : Judged) where
           (subst (λ (z : ℕ). IsCausalPair j.history (step_from t) z) leads.2 (step_pair j.history t leads.1)) in
           rw from (by_key y f t leads.1 (leads.0 ∙ from) leads.2 (reading.first y f (against, pair)))
 
--- a link of one step or of two
+-- a link of one step or two
 pub two_of : (q : ℕ) (P Q : Type 0) → ((q ≡ 1) × P) ⊎ ((q ≡ 2) × Q) → q ≢ 1 → q ≡ 2
 two_of q P Q (inl (one, p)) other = absurd (other one)
 two_of q P Q (inr (two, r)) other = two

@@ -1,4 +1,4 @@
--- Which links may be the last, where three steps at most are left.
+-- Which links may be the last, where at most three steps are left.
 use Rattle.std.proofs.Common.{ℕ, ◌≡◌, ◌≢◌, ◌<◌, ◌≤◌, ◌+◌, ◌-◌, ◌⊎◌, inl, inr, List, refl, sym, ◌∙◌, subst, arith}
 use Rattle.std.specs.declared.cmp.Ordering.TheVariants.{Greater}
 use Rattle.std.proofs.lemmas.Bool.{cases_eq, cases_order, lt-ltb}
@@ -59,7 +59,7 @@ module _ (j : Judged) (s v n : ℕ) where
       go (inl (one, pair, (m, sum, way))) = by m (omega (arith, one, sum)) way
       go (inr (two, short, (m, sum, way))) = by m (omega (arith, two, sum)) way
 
-  -- and a link costs a step at least
+  -- and a link costs at least one step
   pub last_costs : (u q : ℕ) → IsLastFrom j.history s v n u q → (1 ≤ q) × (q ≤ n)
   last_costs u q (inl (one, pair, (m, sum, way))) = (omega (arith, one), omega (arith, one, sum))
   last_costs u q (inr (two, short, (m, sum, way))) = (omega (arith, two), omega (arith, two, sum))

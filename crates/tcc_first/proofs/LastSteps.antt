@@ -45,7 +45,7 @@ module _ (Is Js : ℕ → Type 0) (kept : (u : ℕ) → Is u → Js u) where
             let same : n ≡ min m n = omega (arith, more) in
             subst (λ (z : ℕ). IsLowestOf Js (Some z)) same (here, no_lower n (omega arith) (λ u was. omega (arith, more, least.1 u was)))
 
--- ---- those before a transaction in session order
+-- ---- the transactions before another in session order
 -- session order goes on from one pair to the next
 session_on : (h : History) (a b c : ℕ) → IsSessionPair h a b → IsSessionPair h b c → IsSessionPair h a c
 session_on h a b c p q = go (cases_eq a 0)
@@ -62,13 +62,13 @@ session_on h a b c p q = go (cases_eq a 0)
         let some : 0 < a = omega (arith, other) in
         lower_first h a c some one.from two.some two.to (one.same some ∙ two.same one.some) (omega (arith, one.lower some, two.lower one.some))
 
--- the lowest so far of those before the end, where the ones that are left stand before another one
+-- the lowest so far of the transactions before the end; the remaining ones come before another transaction
 abbrev pub IsLowestDown : History → (ℕ → Type 0) → ℕ → ℕ → Option ℕ → Type 0
 IsLowestDown h Is end at lowest =
     MatchOption lowest ((u : ℕ) → IsSessionPair h u end → Is u → IsSessionPair h u at)
     (λ n. (IsSessionPair h n end × Is n) × (at ≤ n) × ((u : ℕ) → IsSessionPair h u end → Is u → (n ≤ u) ⊎ IsSessionPair h u at))
 
--- what stands where the search has come down to a transaction
+-- the state when the search has come down to a transaction
 pub record IsDown (h : History) (Is : ℕ → Type 0) (end : ℕ) (at : ℕ) (lowest : Option ℕ) : Type 0 where
   pub below : at < count h
   pub onward : (u : ℕ) → IsSessionPair h u at → IsSessionPair h u end
@@ -125,7 +125,7 @@ module _ (h : History) (Is : ℕ → Type 0) (end : ℕ) where
             go u is (inl up) = inl up
             go u is (inr p) = inr (before u is p)
 
-  -- nothing stands before `init`
+  -- no transaction comes before `init`
   pub all_down : (at : ℕ) → at ≤ 0 → (lowest : Option ℕ) → IsDown h Is end at lowest → IsLowestOf (λ u. IsSessionPair h u end × Is u) lowest
   all_down at none lowest w = go lowest w.so_far
     where
@@ -141,7 +141,7 @@ module _ (h : History) (Is : ℕ → Type 0) (end : ℕ) where
       go (Some n) so = (so.0, λ u both. up n u (so.2 u both.0 both.1))
 
 -- ---- and those that it reads from
--- it stands before the end in session order, or one of the first reads is from it
+-- it comes before the end in session order, or one of the first reads is from it
 abbrev pub IsStartIn : History → ℕ → List (ℕ × ℕ) → ℕ → ℕ → Type 0
 IsStartIn h end reads k u = IsSessionPair h u end ⊎ ((i : ℕ) × (i < k) × ((slice_index_or reads i (0, 0)).1 ≡ u))
 

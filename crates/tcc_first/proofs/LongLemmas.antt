@@ -87,7 +87,7 @@ module _ (j : Judged) (b most : ℕ) (lengths : List ℕ) (few : most < NO_WALK)
             let few_d : get_or lengths d 0 < NO_WALK = omega (arith, low, less, within, few) in
             absurd (none (get_or lengths d 0) (some_length d below few_d) (omega (arith, low, less)) y d (against, refl))
 
-    -- one of just so many does by its shortest one
+    -- a walk of exactly n steps contradicts it by a shortest one
     just_so : (y : List ℕ) (d : ℕ) (walk : List Step) → MayContradict j.history b a y d → IsAllowedWalk j b d walk → length walk ≡ n
         → IsContradictedAt j.history lengths n b a y d
     just_so y d walk against allowed long = (
@@ -187,7 +187,7 @@ cheapest_pair j u v l is = record {
 }
 
 -- ---- the fewest steps
--- of the first k readings
+-- the fewest for the first k readings
 pub record AreFewest (h : History) (lengths : List ℕ) (b : ℕ) (a : ℕ) (readers : List ℕ) (key_indices : List ℕ) (k : ℕ) (fewest : ℕ) : Type 0 where
   pub none : (i : ℕ) → i < k → 0 < get_or lengths (get_or readers i 0) 0 → MayContradict h b a (key_at h (get_or key_indices i 0)) (get_or readers i 0)
       → fewest ≤ get_or lengths (get_or readers i 0) 0
@@ -235,7 +235,7 @@ module _ (h : History) (lengths : List ℕ) (b a : ℕ) (readers key_indices : L
       let one : MayContradict h b a (key_at h (get_or key_indices i 0)) (get_or readers i 0) = rw (reader, key) is.0 in
       omega (arith, some, low, at, w.none i (omega (arith, inside, all)) (omega (arith, at, some)) one)
 
--- the first of those by so many steps
+-- the first of those with this number of steps
 pub nearest_of : (h : History) (lengths : List ℕ) (b a most n : ℕ) → n ≤ most → most < NO_WALK → NoneContradictedUpTo h lengths (n - 1) b a
     → (n ≡ NO_WALK) ⊎ ((0 < n) × ((x : List ℕ) × (c : ℕ) × IsContradictedAt h lengths n b a x c)) → (found : Option (List ℕ × ℕ))
     → MatchOption found ((x : List ℕ) (c : ℕ) → IsContradictedAt h lengths n b a x c → ⊥)

@@ -15,8 +15,8 @@ use Rattle.tcc_first.specs.private.Starts.{IsFirstStart}
 use Rattle.tcc_first.specs.private.Picks.{EndsWay, IsFirstLast}
 use Rattle.tcc_first.proofs.Around.{last_link}
 
--- some links were picked: they lead on from `end` back to the start, what is left brings the search to `end`, and each was the first
--- that could be picked
+-- some links were picked: they lead on from `end` back to the start, what is left brings the search to `end`, and each was the first that
+-- could be picked
 pub record IsUnderWay (j : Judged) (s : ℕ) (n : ℕ) (end : ℕ) (left : ℕ) (picked : List Link) : Type 0 where
   pub back : LinksLead j end s (reverse picked)
   pub costs : left + cost (reverse picked) ≡ n
@@ -42,7 +42,7 @@ module _ {j : Judged} {s n : ℕ} (is : IsFirstStart j s n) where
   under_way = let (others, cycle, costs) = is.attained in record { back = refl; costs = omega arith; way = (others, cycle.1, costs); picks = tt }
 
   module _ {end left : ℕ} {picked : List Link} (way : IsUnderWay j s n end left picked) where
-    -- a link that ends the way ends a least cycle together with those picked
+    -- a link that ends the way forms a least cycle together with those picked
     closes : (front : List Link) (o : Link) → LinksLead j s (link_from o) front → (ends : EndsWay j s end left o) → cost front + link_cost o ≤ left
         → IsLeastCycle j s (front ++ o ∷ reverse picked)
     closes front o lead ends low =
@@ -71,7 +71,7 @@ module _ {j : Judged} {s n : ℕ} (is : IsFirstStart j s n) where
     pub above : (o : Link) → EndsWay j s end left o → s ≤ link_from o
     above o ends = let (front, lead, sum) = ends.way in begins_above j s is.lowest front o (reverse picked) (closes front o lead ends (omega (arith, sum)))
 
-    -- of two that begin at one number none costs less
+    -- of two that begin at one number neither costs less
     no_dearer : (o k : Link) → EndsWay j s end left o → EndsWay j s end left k → link_from o ≡ link_from k → link_cost o ≤ link_cost k
     no_dearer o k p q same =
         let (front, lead, sum) = p.way in

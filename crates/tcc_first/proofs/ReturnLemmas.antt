@@ -45,7 +45,7 @@ place_of_key h b writes value x some writer = go (or_cases (b == 0) (has_name (e
         let w = from_map (key_at h) writes x listed in
         (w.1.0, w.1.1, ap (key_at h) (get_or_default writes w.1.0 0 w.0 w.1.1 ∙ w.1.2) ∙ w.2)
 
--- ---- what is overwritten since
+-- ---- what has been overwritten since
 module _ (h : History) (ordered : IsBySession h.entries) (a c : ℕ) (x : List ℕ) (read : IsReadsPair h a c x) where
   pub none_between : ((n : ℕ) → Contains (writers h x) n → c ≤ n) → ((b : ℕ) × IsWriter h b x × IsSessionPair h a b × IsSessionPair h b c) → ⊥
   none_between high (b, writer, p, q) =
@@ -60,12 +60,12 @@ module _ (h : History) (ordered : IsBySession h.entries) (a c : ℕ) (x : List �
       (stands_after h ordered a b m c p low below q, stands_before h ordered b m c parts.some low below q)
 
 -- ---- the loop over the readings from a
--- none of the first n is overwritten since
+-- none of the first n has been overwritten since
 abbrev pub NoneOverwritten : History → ℕ → List ℕ → List ℕ → ℕ → Type 0
 NoneOverwritten h a readers key_indices n =
     (k : ℕ) → k < n → IsOverwritten h a (slice_index readers k) (key_at h (slice_index key_indices k)) → ⊥
 
--- something that is read from a is
+-- something that is read from a has been
 abbrev pub HasOverwritten : History → ℕ → Type 0
 HasOverwritten h a = (x : List ℕ) × (c : ℕ) × IsReadsPair h a c x × IsOverwritten h a c x
 
@@ -77,7 +77,7 @@ module _ (h : History) (a : ℕ) (readers key_indices : List ℕ) (are : AreRead
       (subst (λ (z : ℕ). IsOverwritten h a z (key_at h (slice_index key_indices w.0))) (sym w.2)
       (subst (λ (z : List ℕ). IsOverwritten h a c z) (sym w.3) over))
 
--- ---- by what the one pair is
+-- ---- by the kind of the one pair
 pub overwritten_or : (h : History) (a c : ℕ) (x : List ℕ) (r : Bool) → (((b : ℕ) × IsWriter h b x × IsSessionPair h a b × IsSessionPair h b c) → ⊥)
     → IsTrue r ↔ ((b : ℕ) × IsWriter h b x × (a < b) × IsCausalPair h a b × IsRead h b c) → IsTrue r ↔ IsOverwritten h a c x
 overwritten_or h a c x r none both = ((λ e. let (b, writer, low, p, q) = both.0 e in (b, writer, inr (low, p, q))), go)

@@ -1,4 +1,4 @@
--- Pairs to what stands before a transaction in session order, and readings by their readers.
+-- Pairs to the transactions before another in session order, and readings by their readers.
 use Rattle.std.proofs.Common.{ℕ, ◌<◌, ◌≤◌, ◌≡◌, ◌⊎◌, inl, inr, Bool, false, List, [], length, get_or, map, sym, subst, ◌∙◌, arith}
 use Rattle.std.specs.Prelude.{◌↔◌, IsTrue, slice_index}
 use Rattle.std.specs.List.{Contains}
@@ -16,7 +16,7 @@ use Rattle.tcc_least.proofs.Listed.{pair_at, at_pair}
 use Rattle.tcc_least.proofs.Sessions.{session_on, not_itself}
 use Rattle.tcc_first.specs.private.Ways.{HasBetween, HasPairs, IsWay}
 
--- ---- who reads from a
+-- ---- the readers from a
 module _ (h : History) (a : ℕ) (readers key_indices : List ℕ) (are : AreReadingsByIndex h a readers key_indices) where
   named : AreReadings h a readers (map (key_at h) key_indices)
   named = named_readings h a readers key_indices are
@@ -38,7 +38,7 @@ module _ (h : History) (a : ℕ) (readers key_indices : List ℕ) (are : AreRead
       subst (λ (z : ℕ). IsRead h a z) (get_or_default readers k 0 c inside ∙ is) (reader_at k inside)
 
 module _ (h : History) (ordered : IsBySession h.entries) where
-  -- session order leads upward, but from `init`
+  -- session order leads upward, except from `init`
   pub rises_to : (u v : ℕ) → 0 < u → IsSessionPair h u v → u < v
   rises_to u v some p = go (cases_lt u v) (cases_lt v u)
     where
@@ -59,7 +59,7 @@ module _ (h : History) (ordered : IsBySession h.entries) where
   read_down u m low (inr read) = read
   read_down u m low (inl p) = absurd (omega (arith, low, rises_to u m (omega (arith, low)) p))
 
-  -- what follows one that stands before v, up to v, stands before it too
+  -- a transaction from one that comes before v, up to v, comes before v too
   pub stands_before : (u m v : ℕ) → 0 < u → u ≤ m → m < v → IsSessionPair h u v → IsSessionPair h m v
   stands_before u m v some low high p = go (cases_eq u m)
     where
@@ -67,7 +67,7 @@ module _ (h : History) (ordered : IsBySession h.entries) where
       go (inl same) = subst (λ (z : ℕ). IsSessionPair h z v) same p
       go (inr other) = onward h ordered u v some p m (omega (arith, low, other)) high
 
-  -- and after what the one stands after
+  -- and comes after those that the first one comes after
   pub stands_after : (s u m v : ℕ) → IsSessionPair h s u → u ≤ m → m < v → IsSessionPair h u v → IsSessionPair h s m
   stands_after s u m v q low high p = go (cases_eq u m)
     where
@@ -78,7 +78,7 @@ module _ (h : History) (ordered : IsBySession h.entries) where
       go (inl same) = subst (λ (z : ℕ). IsSessionPair h s z) same q
       go (inr other) = session_on h s u m q (upto h ordered u v parts.some p m (omega (arith, low, other)) high)
 
-  -- ---- a pair to what stands before u
+  -- ---- a pair to a transaction before u
   module _ (s u p : ℕ) (some : 0 < u) (last : (b : ℕ) → IsSessionPair h b u → (b ≡ p) ⊎ IsSessionPair h b p)
       (apart : session_pair h s p ≡ false) (no_init : causal_pair h s 0 ≡ false) where
     abbrev pub IsReadBefore : Type 0
@@ -108,7 +108,7 @@ module _ (h : History) (ordered : IsBySession h.entries) where
         let (w, more, read, low, r) = read_before found in
         stands_before w m u more (high w (reader_in h s readers key_indices are w read) low) below r
 
--- ---- two pairs, by what the second is
+-- ---- two pairs, by the kind of the second
 pub between_or : (h : History) (s u : ℕ) (r : Bool) → (((d : ℕ) × IsRead h d u × IsCausalPair h s d) → ⊥)
     → IsTrue r ↔ ((w : ℕ) × IsCausalPair h s w × IsSessionPair h w u) → IsTrue r ↔ HasBetween h s u
 between_or h s u r none both = ((λ e. let (w, p, q) = both.0 e in (w, p, inl q)), go)

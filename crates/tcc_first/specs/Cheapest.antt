@@ -12,7 +12,7 @@ pub record IsLinkFrom (j : Judged) (u : ℕ) (v : ℕ) (l : Link) : Type 0 where
   pub to : link_to l ≡ v
   pub link : IsLink j l
 
--- none costs less, and of those that cost as much it is the first
+-- none costs less, and it is the first of those that cost as much
 pub record IsFirstCheapest (j : Judged) (u : ℕ) (v : ℕ) (l : Link) : Type 0 where
   pub leads : IsLinkFrom j u v l
   pub least : (other : Link) → IsLinkFrom j u v other → link_cost l ≤ link_cost other

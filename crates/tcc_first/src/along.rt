@@ -1,5 +1,5 @@
-//! The first of the least cycles, by the transactions that its links begin at (as `tcc_lanes::cheaper_among` gives them): from the last
-//! one backwards each link is the first of the cheapest between two of them (`cheapest`).
+//! The first of the least cycles, by the transactions at which its links begin (as `tcc_lanes::cheaper_among` gives them). From the last
+//! one backwards, each link is the first of the cheapest between two of them (`cheapest`).
 ghost use Rattle.std.specs.Prelude.{◌≡◌, ◌<◌, ℕ, length, slice_index, All, IfOk};
 ghost use Rattle.tcc_reads.specs.History.{count};
 ghost use Rattle.tcc_graph.specs.{Levels.judged, Links.cost, Ties.IsFirstCycle};
@@ -11,7 +11,7 @@ use std::alloc::Global;
 use tcc_graph::{LargeGraph, Level, Link};
 use tcc_txn::NoMemory;
 
-/// The first of the least cycles, each of which has so many steps, by the transactions at which its links begin.
+/// The first of the least cycles, each of which has `steps` steps, by the transactions at which its links begin.
 pub fn first_along(
     alloc: Global,
     graph: &LargeGraph,

@@ -1,6 +1,6 @@
-//! The cheapest link from one transaction to another, and of those the first by the rule of ties: one of a pair, or else the derived one
-//! by the shortest walk, found from the lengths of all walks (`first_walks`). For N transactions and R reads that takes as many sweeps of
-//! N + R as these lengths do, and some N + R steps more.
+//! The cheapest link from one transaction to another, and of those the first by the rule of ties. It is that of a pair, or else the derived
+//! one by the shortest walk, found from the lengths of all walks (`first_walks`). For N transactions and R reads this takes as many sweeps
+//! of N + R as these lengths do, and some N + R steps more.
 ghost use Rattle.std.specs.Prelude.{◌≡◌, ◌<◌, ◌≤◌, ◌+◌, ◌-◌, ◌⊎◌, ◌↔◌, ℕ, List, length, IsTrue, IfOk, MatchOption};
 ghost use Rattle.tcc_reads.specs.History.{count};
 ghost use Rattle.tcc_graph.specs.{Relations.IsReadsPair, Keys.keys, Keys.key_at, Levels.judged, Links.MayContradict, Links.link_cost, declared.link.Link.Link};
@@ -26,7 +26,7 @@ fn may_contradict(graph: &LargeGraph, from: u32, source: u32, reader: u32, key_i
     from != source && has_number(graph.writers_at(key_index), from)
 }
 
-/// Whether one transaction contradicts a reading from another by a shortest walk of so many steps.
+/// Whether one transaction contradicts a reading from another by a shortest walk of this many steps.
 fn is_contradicted(
     graph: &LargeGraph,
     lengths: &[u32],
@@ -45,8 +45,8 @@ fn is_contradicted(
     lengths[reader as usize] == steps && may_contradict(graph, from, source, reader, key_index)
 }
 
-/// Of the readings from one transaction that the other contradicts by a shortest walk of so many steps the first, by key and by reader;
-/// none where there is none.
+/// The first reading from one transaction, by key and by reader, that the other contradicts by a shortest walk of this many steps; none
+/// where there is none.
 fn first_contradicted(
     graph: &LargeGraph,
     lengths: &[u32],
@@ -80,7 +80,7 @@ fn first_contradicted(
     Some((graph.keys()[key_index as usize], reader))
 }
 
-/// Whether one transaction contradicts a reading from another by a walk of so many steps, which are fewer than the fewest so far.
+/// Whether one transaction contradicts a reading from another by a walk of this many steps, which are fewer than the fewest so far.
 fn is_nearer(
     graph: &LargeGraph,
     from: u32,
@@ -125,8 +125,8 @@ fn fewest_steps(graph: &LargeGraph, lengths: &[u32], from: u32, source: u32) -> 
     fewest
 }
 
-/// Of the readings from one transaction that the other contradicts by the shortest walk the first, by key and by reader; none where no
-/// walk of so many steps at most contradicts one.
+/// The first reading from one transaction, by key and by reader, that the other contradicts by the shortest walk; none where no walk of at
+/// most `most` steps contradicts one.
 fn nearest_contradicted(
     graph: &LargeGraph,
     lengths: &[u32],
@@ -148,8 +148,8 @@ fn nearest_contradicted(
     first_contradicted(graph, lengths, from, source, steps)
 }
 
-/// The cheapest link from one transaction to another, and of those the first by the rule of ties; none where each has more than
-/// `most + 1` steps.
+/// The cheapest link from one transaction to another, and of those the first by the rule of ties; none where each has more than `most + 1`
+/// steps.
 pub fn cheapest_link(
     alloc: Global,
     graph: &LargeGraph,

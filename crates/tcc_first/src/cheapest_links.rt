@@ -1,4 +1,4 @@
-//! Of the links of one step, or of two, from one transaction to another the first by the rule of ties: by kind, key, reader and walk.
+//! The first link of one step, or of two, from one transaction to another, by the rule of ties: by kind, key, reader and walk.
 ghost use Rattle.std.specs.Prelude.{◌≡◌, ◌≢◌, ◌<◌, ◌⊎◌, ◌↔◌, ℕ, length, Some, IsTrue, IfOk};
 ghost use Rattle.tcc_reads.specs.History.{count};
 ghost use Rattle.tcc_graph.specs.{Relations.IsReadsPair, Relations.IsCausalPair, Relations.reads_from, Keys.keys, Keys.key_at, Levels.judged, declared.level.Level.Level};
@@ -72,7 +72,7 @@ fn is_contradicted(graph: &LargeGraph, from: u32, source: u32, reader: u32, key_
     has_number(graph.writers_at(key_index), from) && graph.causal(from, reader)
 }
 
-/// Of the readings from one transaction that the other contradicts by a pair the first, by key and by reader.
+/// The first reading from one transaction, by key and by reader, that the other contradicts by a pair.
 fn first_contradicted(graph: &LargeGraph, from: u32, source: u32) -> (Name, u32)
     requires from { from < count graph.now }
     requires source { source < count graph.now }
@@ -123,7 +123,7 @@ fn two_step_link(alloc: Global, graph: &LargeGraph, from: u32, to: u32) -> Resul
     })
 }
 
-/// The first link of so many steps, which are one or two.
+/// The first link of `steps` steps, which are one or two.
 pub(crate) fn first_link(
     alloc: Global,
     graph: &LargeGraph,

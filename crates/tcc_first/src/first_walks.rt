@@ -1,6 +1,6 @@
-//! The first of the shortest walks from one transaction to another, traced back from its end by the lengths of walks: each step is the
-//! first that comes from a transaction whose length is one less. For each step the transactions before its end in session order are looked
-//! at, and those that its end reads from.
+//! The first of the shortest walks from one transaction to another, traced back from its end by the lengths of walks. Each step is the
+//! first that comes from a transaction whose length is one less. Each step looks at the transactions before its end in session order, and
+//! at those that its end reads from.
 ghost use Rattle.std.specs.Prelude.{◌≡◌, ◌<◌, ℕ, true, length, slice_index, min, Some, IfOk, MatchOption};
 ghost use Rattle.tcc_reads.specs.History.{count};
 ghost use Rattle.tcc_graph.specs.{declared.level.Level.Level, declared.step.Step.Step, Levels.judged, Relations.IsSessionPair, Relations.IsCausalPair};
@@ -14,7 +14,7 @@ use std::alloc::Global;
 use tcc_graph::{LargeGraph, Step, Walk};
 use tcc_txn::NoMemory;
 
-/// Whether `left` steps lead to the transaction, and no fewer; no steps lead to where the walk begins alone.
+/// Whether `left` steps lead to the transaction, and no fewer; only where the walk begins, 0 steps lead.
 fn stands_at(lengths: &[u32], from: u32, transaction: u32, left: u32) -> bool
     requires { transaction < length lengths.now }
     ensures { result ≡ stands_at lengths.now from transaction left }

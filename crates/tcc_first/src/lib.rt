@@ -1,5 +1,5 @@
-//! The first of the least cycles by the rule of ties, in a history of any size: from where the first one starts its links are picked
-//! from the last backwards. Where a least cycle costs three steps at most, as most do, it shows at one place, and no search is needed.
+//! The first of the least cycles by the rule of ties, in a history of any size: from where the first one starts its links are picked from
+//! the last backwards. Where a least cycle costs at most three steps, as most do, one place shows it, and no search is needed.
 #![tactic(auto)]
 
 mod along;

@@ -1,4 +1,4 @@
-//! Ascending numbers, halved.
+//! Ascending numbers, searched by halving.
 ghost use Rattle.std.specs.Prelude.{◌≡◌, ◌≤◌, ◌<◌, ◌↔◌, ℕ, length, Contains, IsTrue, MatchOption, nat_lt, nat_le, true, false, zip};
 ghost use Rattle.std.specs.List.Sorted.{IsNonDecreasing, IsPartitionPoint};
 ghost use Rattle.std.specs.Ordering.{nat_cmp};

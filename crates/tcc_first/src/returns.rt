@@ -1,5 +1,5 @@
-//! Derived links of two steps into a transaction, to each of which a pair leads back from there: by what is read from it and overwritten
-//! since, and over its readers where the reader of the link follows in session order.
+//! Derived links of two steps into a transaction, for each of which a pair leads back from there. They are found by what is read from it
+//! and has been overwritten since, and by its readers where the reader of the link follows in session order.
 ghost use Rattle.std.specs.Prelude.{◌≡◌, ◌≤◌, ◌<◌, ◌↔◌, ℕ, List, length, IsTrue};
 ghost use Rattle.tcc_reads.specs.History.{count};
 ghost use Rattle.tcc_graph.specs.{Relations.IsSessionPair, Relations.IsReadsPair, Relations.IsCausalPair, Keys.IsWriter, Keys.keys, Keys.key_at};
@@ -10,7 +10,7 @@ use crate::ranges::{has_number, last_below};
 use crate::two_steps::is_session_two_step;
 use tcc_graph::LargeGraph;
 
-/// Whether a writer of the key at an index stands between two transactions in session order.
+/// Whether a writer of the key at an index comes between two transactions in session order.
 fn is_overwritten_between(graph: &LargeGraph, from: u32, to: u32, key_index: u32) -> bool
     requires from { from < count graph.now }
     requires to { to < count graph.now }
@@ -26,8 +26,7 @@ fn is_overwritten_between(graph: &LargeGraph, from: u32, to: u32, key_index: u32
     graph.session(from, writer) && graph.session(writer, to)
 }
 
-/// Whether a reader of the key at an index from a transaction reads too from a writer of the key above that, to which a pair leads from
-/// there.
+/// Whether a reader of the key at an index from a transaction also reads from a higher writer of the key, to which a pair leads from there.
 fn reads_overwriting(graph: &LargeGraph, from: u32, reader: u32, key_index: u32) -> bool
     requires from { from < count graph.now }
     requires reader { reader < count graph.now }
@@ -45,7 +44,7 @@ fn reads_overwriting(graph: &LargeGraph, from: u32, reader: u32, key_index: u32)
     false
 }
 
-/// Whether what a reader reads of the key at an index from a transaction is overwritten since.
+/// Whether what a reader reads of the key at an index from a transaction has been overwritten since.
 fn is_overwritten(graph: &LargeGraph, from: u32, reader: u32, key_index: u32) -> bool
     requires from { from < count graph.now }
     requires reader { reader < count graph.now }
@@ -57,7 +56,7 @@ fn is_overwritten(graph: &LargeGraph, from: u32, reader: u32, key_index: u32) ->
         || reads_overwriting(graph, from, reader, key_index)
 }
 
-/// Whether something that is read from a transaction is overwritten since.
+/// Whether something that is read from a transaction has been overwritten since.
 fn has_overwritten(graph: &LargeGraph, from: u32) -> bool
     requires { from < count graph.now }
     ensures { IsTrue result ↔ ((x : List ℕ) × (c : ℕ) × IsReadsPair graph.now from c x × IsOverwritten graph.now from c x) }

@@ -1,6 +1,6 @@
-//! The first of the least cycles where one costs three steps at most: from where it starts its links are picked from the last
-//! backwards, each the first from the lowest number by which what is left can end. Among N transactions that takes N tests of pairs
-//! for each link.
+//! The first of the least cycles where one costs at most three steps. From where it starts its links are picked from the last backwards,
+//! each the first from the lowest number from which the rest can be completed. Among N transactions this takes N tests of pairs for each
+//! link.
 ghost use Rattle.std.specs.Prelude.{◌≡◌, ◌≤◌, ◌<◌, ◌-◌, ◌↔◌, ℕ, IsTrue, IfOk, MatchOption};
 ghost use Rattle.tcc_reads.specs.History.{count};
 ghost use Rattle.tcc_graph.specs.{Relations.IsCausalPair, Levels.judged, Links.cost, Ties.IsFirstCycle, declared.level.Level.Level};
@@ -61,7 +61,7 @@ fn last_cost(graph: &LargeGraph, start: u32, end: u32, left: u32, from: u32) -> 
     None
 }
 
-/// The lowest number from the start upward from which a link to the end makes up what is left with a way from the start, and what that
+/// The lowest number, from the start upward, from which a link to the end and a way from the start to it take what is left; and what that
 /// link costs.
 fn last_start(graph: &LargeGraph, start: u32, end: u32, left: u32) -> Option<(u32, u32)>
     requires some { 0 < left }
@@ -80,7 +80,7 @@ fn last_start(graph: &LargeGraph, start: u32, end: u32, left: u32) -> Option<(u3
     None
 }
 
-/// The links of the first of the least cycles, which starts here and costs three steps at most.
+/// The links of the first of the least cycles, which starts here and costs at most three steps.
 fn links_from(
     alloc: Global,
     graph: &LargeGraph,
@@ -109,8 +109,8 @@ fn links_from(
     Ok(picked)
 }
 
-/// The first of the least cycles by the rule of ties, with the number at which it starts, where a least cycle costs three steps at
-/// most; none exactly where no cycle costs so little. It is the first at each level.
+/// The first of the least cycles by the rule of ties, with the number at which it starts, where a least cycle costs at most three steps;
+/// none exactly where no cycle costs so little. It is the first at each level.
 pub fn first_short(alloc: Global, graph: &LargeGraph) -> Result<Option<(u32, Vec<Link>)>, NoMemory>
     ensures { IfOk result (λ found. (level : Level) → MatchOption found (NoneBelow (judged graph.now level) 4)
         (λ first. IsFirstCycle (judged graph.now level) first.0 first.1.items × (cost first.1.items ≤ 3))) }

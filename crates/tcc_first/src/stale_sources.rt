@@ -1,5 +1,5 @@
-//! Derived links of two steps from a transaction into one that it reads from and that stands above it: over those that it reads from
-//! where the reader follows it in session order, and over its readers where the reader reads from it.
+//! Derived links of two steps from a transaction into a higher one that it reads from. Those whose reader follows the transaction in
+//! session order are found by what it reads from, and those whose reader reads from it by its readers.
 ghost use Rattle.std.specs.Prelude.{◌≡◌, ◌≤◌, ◌<◌, ◌↔◌, ℕ, List, length, IsTrue};
 ghost use Rattle.tcc_reads.specs.History.{count};
 ghost use Rattle.tcc_graph.specs.{Relations.IsReadsPair, Keys.IsWriter, Keys.keys, Keys.key_at};
@@ -10,7 +10,7 @@ use crate::ranges::has_number;
 use crate::two_steps::is_session_two_step;
 use tcc_graph::LargeGraph;
 
-/// Whether a transaction overwrites what is read, and reads from its source, which stands above it.
+/// Whether a transaction overwrites what is read, and reads from its source, which is above it.
 fn overwrites_source(graph: &LargeGraph, start: u32, reader: u32, read: (u32, u32)) -> bool
     requires start { start < count graph.now }
     requires within { (read.0 < length (keys graph.now)) × (read.1 < count graph.now) }
@@ -24,7 +24,7 @@ fn overwrites_source(graph: &LargeGraph, start: u32, reader: u32, read: (u32, u3
     has_number(graph.writers_at(read.0), start) && graph.causal(read.1, start)
 }
 
-/// Whether a reader reads what a transaction overwrites from one above it that the transaction reads from too.
+/// Whether a reader reads what a transaction overwrites from a higher one that the transaction reads from too.
 fn reads_overwritten(graph: &LargeGraph, start: u32, reader: u32) -> bool
     requires start { start < count graph.now }
     requires reader { reader < count graph.now }

@@ -1,6 +1,6 @@
-//! Where the first of the least cycles starts, if it costs three steps at most: the first transaction around which a cycle of one step
-//! leads and over none below it, else of two, else of three. Of R reads, each of a transaction with D reads and writes at most, it
-//! takes R * D look-ups by halving.
+//! Where the first of the least cycles starts, if it costs at most three steps. It is the first transaction around which a cycle of one
+//! step leads that passes none below it, else of two, else of three. For R reads, each of a transaction with at most D reads and writes,
+//! this takes R * D look-ups by halving.
 ghost use Rattle.std.specs.Prelude.{◌≡◌, ◌≤◌, ◌<◌, ◌↔◌, ℕ, IsTrue, MatchOption};
 ghost use Rattle.tcc_reads.specs.History.{count};
 ghost use Rattle.tcc_graph.specs.{Levels.judged, declared.level.Level.Level};
@@ -12,7 +12,7 @@ use crate::stale_sources::has_stale_source;
 use crate::ways::has_pairs;
 use tcc_graph::LargeGraph;
 
-/// Whether so many pairs lead around a transaction, the last from one that it reads from and that isn't below it.
+/// Whether `steps` pairs lead around a transaction, the last from one that it reads from and that isn't below it.
 fn is_around_by_pairs(graph: &LargeGraph, steps: u32, start: u32) -> bool
     requires some { 1 ≤ steps }
     requires few { steps ≤ 3 }
@@ -27,7 +27,7 @@ fn is_around_by_pairs(graph: &LargeGraph, steps: u32, start: u32) -> bool
     false
 }
 
-/// Whether a cycle of so many steps leads around a transaction and over none below it: over one that it reads from, or over a derived
+/// Whether a cycle of `steps` steps leads around a transaction and passes none below it: over one that it reads from, or over a derived
 /// link of two steps into it.
 fn is_around(graph: &LargeGraph, steps: u32, start: u32) -> bool
     requires some { 1 ≤ steps }
@@ -41,7 +41,7 @@ fn is_around(graph: &LargeGraph, steps: u32, start: u32) -> bool
     steps == 3 && (has_stale_source(graph, start) || has_return(graph, start))
 }
 
-/// The first transaction around which a cycle of so many steps leads.
+/// The first transaction around which a cycle of `steps` steps leads.
 fn first_around(graph: &LargeGraph, steps: u32) -> Option<u32>
     requires some { 1 ≤ steps }
     requires few { steps ≤ 3 }
@@ -56,7 +56,7 @@ fn first_around(graph: &LargeGraph, steps: u32) -> Option<u32>
     None
 }
 
-/// Where the first of the least cycles starts, and what it costs, if that is three steps at most. There is none exactly where no cycle
+/// Where the first of the least cycles starts, and what it costs, if that is at most three steps. There is none exactly where no cycle
 /// costs so little, at each level.
 pub(crate) fn first_start(graph: &LargeGraph) -> Option<(u32, u32)>
     ensures { (level : Level) → MatchOption result (NoneBelow (judged graph.now level) 4)

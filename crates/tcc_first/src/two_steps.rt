@@ -1,5 +1,5 @@
-//! Derived links of two steps: a pair leads from a transaction to a reader of a key that it writes, and that reads another write. Of
-//! the two that it leads between, the keys of the one are gone through, each with the readers of the other.
+//! Derived links of two steps: a pair leads from a transaction to a reader of a key that it writes, and that reads another write. The
+//! search goes through the keys of the one transaction, each with the readers of the other.
 ghost use Rattle.std.specs.Prelude.{◌≡◌, ◌≢◌, ◌≤◌, ◌<◌, ◌↔◌, ℕ, List, length, IsTrue};
 ghost use Rattle.tcc_reads.specs.History.{count};
 ghost use Rattle.tcc_graph.specs.{Relations.IsSessionPair, Relations.IsReadsPair, Relations.IsCausalPair, Keys.keys, Keys.key_at};
@@ -8,8 +8,8 @@ ghost use Rattle.tcc_first.specs.private.Ways.{IsTwoStep, IsSessionTwoStep};
 use crate::ranges::{first_above, has_number, has_within, readers_of};
 use tcc_graph::LargeGraph;
 
-/// Whether a pair leads from one transaction to a reader of the key at an index from the other. `later` is where those begin and end
-/// that follow the one in session order.
+/// Whether a pair leads from one transaction to a reader of the key at an index from the other. `later` is where the transactions that
+/// follow the one in session order begin and end.
 fn leads_to_reader(
     graph: &LargeGraph,
     from: u32,

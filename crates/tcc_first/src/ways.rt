@@ -1,4 +1,4 @@
-//! Ways of two steps at most from one transaction to another.
+//! Ways of at most two steps from one transaction to another.
 ghost use Rattle.std.specs.Prelude.{◌≡◌, ◌≤◌, ◌<◌, ◌↔◌, ℕ, IsTrue};
 ghost use Rattle.tcc_reads.specs.History.{count};
 ghost use Rattle.tcc_graph.specs.{Relations.IsSessionPair, Relations.IsCausalPair};
@@ -8,7 +8,7 @@ use crate::ranges::last_below;
 use crate::two_steps::is_two_step;
 use tcc_graph::LargeGraph;
 
-/// Whether a pair leads from one transaction to some that stands before the other in session order.
+/// Whether a pair leads from one transaction to some that comes before the other in session order.
 fn leads_before(graph: &LargeGraph, from: u32, to: u32) -> bool
     requires from { from < count graph.now }
     requires to { to < count graph.now }
@@ -45,7 +45,7 @@ fn has_between(graph: &LargeGraph, from: u32, to: u32) -> bool
     leads_before(graph, from, to)
 }
 
-/// Whether links lead from one transaction to the other that cost so many steps, two at most.
+/// Whether links lead from one transaction to the other that cost `steps` steps, at most two.
 pub(crate) fn is_way(graph: &LargeGraph, steps: u32, from: u32, to: u32) -> bool
     requires few { steps ≤ 2 }
     requires from { from < count graph.now }
@@ -59,7 +59,7 @@ pub(crate) fn is_way(graph: &LargeGraph, steps: u32, from: u32, to: u32) -> bool
     }
 }
 
-/// Whether so many pairs lead from one transaction to the other, two at most.
+/// Whether `steps` pairs lead from one transaction to the other, at most two.
 pub(crate) fn has_pairs(graph: &LargeGraph, steps: u32, from: u32, to: u32) -> bool
     requires few { steps ≤ 2 }
     requires from { from < count graph.now }

@@ -15,7 +15,7 @@ use Rattle.tcc_full.specs.Objects.{fault_json, field_name, name_json, none_json}
 use Rattle.tcc_full.specs.Records.{Records, read_row, write_row}
 use Rattle.tcc_full.specs.Rows.{row_of}
 use Rattle.tcc_full.specs.private.Framing.{walk_after, walk_before}
-use Rattle.tcc_full.specs.declared.objects.Asked.{Asked}
+use Rattle.tcc_full.specs.declared.objects.ReportOptions.{ReportOptions}
 
 in_row : (found : Option ℕ) → has_float (row_json found) ≡ false
 in_row None = refl
@@ -43,7 +43,7 @@ in_name (Some name) = refl
 pub in_fault : (r : Records) (fault : ReadFault) → has_float (fault_json r fault) ≡ false
 in_fault r fault = rw (in_name (field_name fault.kind), in_row (row_of r.rows fault.session fault.place (fault.op - 1))) refl
 
-pub in_none : (asked : Asked) (fault : Data) (status : Status) → has_float fault ≡ false → has_float (none_json asked fault status) ≡ false
+pub in_none : (asked : ReportOptions) (fault : Data) (status : Status) → has_float fault ≡ false → has_float (none_json asked fault status) ≡ false
 in_none asked fault status plain = rw plain refl
 
 in_session : (k : RowFaultKind) → members_have_float (row_session_json k) ≡ false

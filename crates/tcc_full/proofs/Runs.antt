@@ -16,20 +16,20 @@ use Rattle.tcc_rows.specs.Items.{finished_in}
 use Rattle.tcc_rows.specs.Lines.{Record}
 use Rattle.tcc_rows.specs.Recordings.{IsRecorded}
 use Rattle.tcc_rows.specs.declared.fault.RowFault.{RowFault}
-use Rattle.tcc_full.specs.declared.objects.Asked.{Asked}
-use Rattle.tcc_full.specs.declared.finding.Found.{Found}
+use Rattle.tcc_full.specs.declared.objects.ReportOptions.{ReportOptions}
+use Rattle.tcc_full.specs.declared.finding.FoundAnswer.{FoundAnswer}
 use Rattle.tcc_full.specs.FullAnswer.{IsFound}
 use Rattle.tcc_full.specs.Runs.{IsFullRun, TellsFault, TellsFound, TellsMemory, finished, within}
 
 -- the records are told to have a fault
-pub stopped : (asked : Asked) (required : ℕ) (bytes : List ℕ) (fault : RowFault) (before after : Option (List ℕ)) (code : ℕ)
+pub stopped : (asked : ReportOptions) (required : ℕ) (bytes : List ℕ) (fault : RowFault) (before after : Option (List ℕ)) (code : ℕ)
     → IsRecorded asked.limits bytes (Err fault)
     → TellsFault asked fault before after code ⊎ TellsMemory asked before after code → IsFullRun asked required bytes before after code
 stopped asked required bytes fault before after code is (inl tells) = inr (inl (fault, is, tells))
 stopped asked required bytes fault before after code is (inr memory) = inr (inr memory)
 
 -- what is found for all that they finish is reported
-pub told : (asked : Asked) (required : ℕ) (bytes : List ℕ) (s : Sessions) (found : Found) (before after : Option (List ℕ)) (code : ℕ)
+pub told : (asked : ReportOptions) (required : ℕ) (bytes : List ℕ) (s : Sessions) (found : FoundAnswer) (before after : Option (List ℕ)) (code : ℕ)
     → IsRecorded asked.limits bytes (Ok s) → IsFound asked.level s found
     → TellsFound asked required (within asked.limits bytes) s found before after code ⊎ TellsMemory asked before after code
     → IsFullRun asked required bytes before after code
@@ -60,7 +60,7 @@ marked_cut limit bytes = elim (cases_lt limit (length bytes)) [
 
 -- ---- runs of bytes of which the same goes through
 
-module _ (asked : Asked) (some others : List ℕ) (same : marked (most_bytes asked.limits) some ≡ marked (most_bytes asked.limits) others) where
+module _ (asked : ReportOptions) (some others : List ℕ) (same : marked (most_bytes asked.limits) some ≡ marked (most_bytes asked.limits) others) where
   records_alike : records_within asked.limits some ≡ records_within asked.limits others
   records_alike = ap (λ text. records default_config (strip_bom text)) same
 
@@ -75,22 +75,22 @@ module _ (asked : Asked) (some others : List ℕ) (same : marked (most_bytes ask
   pub run_alike : (required : ℕ) (before after : Option (List ℕ)) (code : ℕ) → within asked.limits some ≡ within asked.limits others
       → IsFullRun asked required some before after code → IsFullRun asked required others before after code
   run_alike required before after code cut (inl tells) =
-      inl (subst (λ (all : Answers). (all.fault ≡ None) × ((found : Found) × IsFound asked.level (finished_in all.items) found
+      inl (subst (λ (all : Answers). (all.fault ≡ None) × ((found : FoundAnswer) × IsFound asked.level (finished_in all.items) found
       × TellsFound asked required (within asked.limits others) (finished_in all.items) found before after code)) answers_alike
-      (subst (λ (text : List ℕ). ((answers_within asked.limits some).fault ≡ None) × ((found : Found) × IsFound asked.level (finished asked.limits some) found
+      (subst (λ (text : List ℕ). ((answers_within asked.limits some).fault ≡ None) × ((found : FoundAnswer) × IsFound asked.level (finished asked.limits some) found
       × TellsFound asked required text (finished asked.limits some) found before after code)) cut tells))
   run_alike required before after code cut (inr (inl stops)) = inr (inl (stops.0, recorded_alike stops.0 stops.1, stops.2))
   run_alike required before after code cut (inr (inr memory)) = inr (inr memory)
 
 -- bytes that were read up to the one after the limit
-pub run_cut : (asked : Asked) (required : ℕ) (bytes : List ℕ) (before after : Option (List ℕ)) (code : ℕ)
+pub run_cut : (asked : ReportOptions) (required : ℕ) (bytes : List ℕ) (before after : Option (List ℕ)) (code : ℕ)
     → IsFullRun asked required (take (most_bytes asked.limits + 1) bytes) before after code → IsFullRun asked required bytes before after code
 run_cut asked required bytes before after code is =
     let limit = most_bytes asked.limits in
     run_alike asked (take (limit + 1) bytes) bytes (marked_cut limit bytes) required before after code (take-take limit (limit + 1) bytes (omega arith)) is
 
 -- the bytes were read whole, up to the one after the limit
-pub read_run : (asked : Asked) (required : ℕ) (known : Option (List ℕ)) (limit : ℕ) (old text shown : List ℕ) (before after : Option (List ℕ)) (code : ℕ)
+pub read_run : (asked : ReportOptions) (required : ℕ) (known : Option (List ℕ)) (limit : ℕ) (old text shown : List ℕ) (before after : Option (List ℕ)) (code : ℕ)
     → limit ≡ most_bytes asked.limits + 1 → old ≡ [] → shown ≡ text → IfSome (option_map (take limit) known) (λ bytes. text ≡ old ++ bytes)
     → IsFullRun asked required shown before after code → IfSome known (λ bytes. IsFullRun asked required bytes before after code)
 read_run asked required None limit old text shown before after code up empty is whole run = tt
@@ -100,7 +100,7 @@ read_run asked required (Some bytes) limit old text shown before after code up e
     (is ∙ whole ∙ ap (λ front. front ++ take limit bytes) empty ∙ ap (λ n. take n bytes) up) run)
 
 -- they were read up to where the reader failed
-pub failed_run : (asked : Asked) (required : ℕ) (known left : Option (List ℕ)) (limit : ℕ) (old text shown : List ℕ) (before after : Option (List ℕ)) (code : ℕ)
+pub failed_run : (asked : ReportOptions) (required : ℕ) (known left : Option (List ℕ)) (limit : ℕ) (old text shown : List ℕ) (before after : Option (List ℕ)) (code : ℕ)
     → limit ≡ most_bytes asked.limits + 1 → old ≡ [] → shown ≡ text → Consumes (option_map (take limit) known) left (appended_bytes old text)
     → IfSome left (λ rest. (required : ℕ) → IsFullRun asked required (shown ++ rest) before after code)
     → IfSome known (λ bytes. IsFullRun asked required bytes before after code)

@@ -24,7 +24,7 @@ use Rattle.tcc_print.specs.declared.status.Status.TheVariants.{Anomaly, ReadFaul
 use Rattle.tcc_full.specs.Links.{link_json, row_json}
 use Rattle.tcc_full.specs.Records.{Records}
 use Rattle.tcc_full.specs.Rows.{row_of}
-use Rattle.tcc_full.specs.declared.objects.Asked.{Asked}
+use Rattle.tcc_full.specs.declared.objects.ReportOptions.{ReportOptions}
 
 -- ---- what was asked for
 
@@ -53,7 +53,7 @@ committed_count h = count h - 1
 -- ---- answers
 
 -- an order, with its status
-abbrev pub consistent_json : Asked → Records → List ℕ → Status → Data
+abbrev pub consistent_json : ReportOptions → Records → List ℕ → Status → Data
 consistent_json asked r order status = object
     (member (codes "answer") (string (codes "consistent"))
     (member (codes "large") (boolean (is_large asked.limits))
@@ -67,7 +67,7 @@ consistent_json asked r order status = object
     no_members)))))))))
 
 -- a cycle; no other has fewer steps
-abbrev pub anomaly_json : Asked → Records → List Link → Data
+abbrev pub anomaly_json : ReportOptions → Records → List Link → Data
 anomaly_json asked r links = object
     (member (codes "answer") (string (codes "anomaly"))
     (member (codes "cycle") (array (items_of (map (link_json r) links)))
@@ -110,7 +110,7 @@ fault_json r fault = object
     no_members))))))))
 
 -- all read faults
-abbrev pub unresolved_json : Asked → Records → List ReadFault → Data
+abbrev pub unresolved_json : ReportOptions → Records → List ReadFault → Data
 unresolved_json asked r faults = object
     (member (codes "answer") (string (codes "unresolved"))
     (member (codes "faults") (array (items_of (map (fault_json r) faults)))
@@ -126,7 +126,7 @@ unresolved_json asked r faults = object
 -- ---- where nothing was judged
 
 -- with what was at fault, and the status
-abbrev pub none_json : Asked → Data → Status → Data
+abbrev pub none_json : ReportOptions → Data → Status → Data
 none_json asked fault status = object
     (member (codes "answer") (string (codes "none"))
     (member (codes "fault") fault

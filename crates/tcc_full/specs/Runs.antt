@@ -14,9 +14,9 @@ use Rattle.tcc_print.specs.Statuses.{row_status}
 use Rattle.tcc_print.specs.declared.status.Status.TheVariants.{Device, Memory}
 use Rattle.tcc_full.specs.Objects.{ended_json, none_json}
 use Rattle.tcc_full.specs.Rows.{HasRowsOf}
-use Rattle.tcc_full.specs.declared.objects.Asked.{Asked}
+use Rattle.tcc_full.specs.declared.objects.ReportOptions.{ReportOptions}
 use Rattle.tcc_full.specs.declared.rows.OperationRows.{OperationRows}
-use Rattle.tcc_full.specs.declared.finding.Found.{Found}
+use Rattle.tcc_full.specs.declared.finding.FoundAnswer.{FoundAnswer}
 use Rattle.tcc_full.specs.FullAnswer.{IsFound, found_json, found_status, records_by}
 
 -- what the records finish by their end, whatever they seal
@@ -28,38 +28,38 @@ abbrev pub within : Limits → List ℕ → List ℕ
 within limits bytes = take (most_bytes limits) bytes
 
 -- what is found for a snapshot is written, with the rows of the operations in a text
-abbrev pub TellsFound : Asked → ℕ → List ℕ → Sessions → Found → Option (List ℕ) → Option (List ℕ) → ℕ → Type 0
+abbrev pub TellsFound : ReportOptions → ℕ → List ℕ → Sessions → FoundAnswer → Option (List ℕ) → Option (List ℕ) → ℕ → Type 0
 TellsFound asked required text s found before after code =
     (rows : OperationRows) × HasRowsOf text rows
     × Prints before after (json_line (found_json asked required (records_by s rows) found)) (found_status required found) code
 
 -- the records have no fault, and what is found for all that they finish is written
-abbrev pub TellsAll : Asked → ℕ → List ℕ → Option (List ℕ) → Option (List ℕ) → ℕ → Type 0
+abbrev pub TellsAll : ReportOptions → ℕ → List ℕ → Option (List ℕ) → Option (List ℕ) → ℕ → Type 0
 TellsAll asked required bytes before after code =
     ((answers_within asked.limits bytes).fault ≡ None)
-    × ((found : Found) × IsFound asked.level (finished asked.limits bytes) found
+    × ((found : FoundAnswer) × IsFound asked.level (finished asked.limits bytes) found
     × TellsFound asked required (within asked.limits bytes) (finished asked.limits bytes) found before after code)
 
 -- the fault of the records is written, or that of a reader that failed after lawful ones
-abbrev pub TellsFault : Asked → RowFault → Option (List ℕ) → Option (List ℕ) → ℕ → Type 0
+abbrev pub TellsFault : ReportOptions → RowFault → Option (List ℕ) → Option (List ℕ) → ℕ → Type 0
 TellsFault asked fault before after code =
     Prints before after (json_line (none_json asked (row_fault_json fault) (row_status fault.kind))) (row_status fault.kind) code
 
-abbrev pub Stops : Asked → List ℕ → Option (List ℕ) → Option (List ℕ) → ℕ → Type 0
+abbrev pub Stops : ReportOptions → List ℕ → Option (List ℕ) → Option (List ℕ) → ℕ → Type 0
 Stops asked bytes before after code =
     (fault : RowFault) × IsRecorded asked.limits bytes (Err fault) × TellsFault asked fault before after code
 
 -- memory is out, which is said in an object; or, where that has no room either, in the shortest line
-abbrev pub TellsMemory : Asked → Option (List ℕ) → Option (List ℕ) → ℕ → Type 0
+abbrev pub TellsMemory : ReportOptions → Option (List ℕ) → Option (List ℕ) → ℕ → Type 0
 TellsMemory asked before after code =
     Prints before after (json_line (none_json asked (ended_json (codes "memory")) Memory)) Memory code
     ⊎ Prints before after (memory_line true) Memory code
 
 -- the records can't be opened
-abbrev pub TellsDevice : Asked → Option (List ℕ) → Option (List ℕ) → ℕ → Type 0
+abbrev pub TellsDevice : ReportOptions → Option (List ℕ) → Option (List ℕ) → ℕ → Type 0
 TellsDevice asked before after code = Prints before after (json_line (none_json asked (ended_json (codes "device")) Device)) Device code
 
 -- what a run does with the bytes
-abbrev pub IsFullRun : Asked → ℕ → List ℕ → Option (List ℕ) → Option (List ℕ) → ℕ → Type 0
+abbrev pub IsFullRun : ReportOptions → ℕ → List ℕ → Option (List ℕ) → Option (List ℕ) → ℕ → Type 0
 IsFullRun asked required bytes before after code =
     TellsAll asked required bytes before after code ⊎ (Stops asked bytes before after code ⊎ TellsMemory asked before after code)

@@ -12,7 +12,7 @@ use tcc_txn::{NoMemory, SnapshotWithin};
 
 /// What is found for a snapshot.
 #[derive(Drop)]
-pub(crate) enum Found {
+pub(crate) enum FoundAnswer {
     /// All its read faults.
     Unresolved(Vec<ReadFault>),
     /// Its graph, and its first commit order or the first of its least cycles.
@@ -24,14 +24,14 @@ pub(crate) fn find<T: Threads + Sync, G: Gate, B: AnsweredBounds>(
     run: &RunContext<T, G>,
     snapshot: &SnapshotWithin<B>,
     level: Level,
-) -> Result<Found, NoMemory>
+) -> Result<FoundAnswer, NoMemory>
     ensures { IfOk result (IsFound level snapshot.now) }
 {
     let answered = answer(run, snapshot, level, false)?;
     match answered {
-        Answered::Unresolved(faults) => Ok(Found::Unresolved(faults)),
+        Answered::Unresolved(faults) => Ok(FoundAnswer::Unresolved(faults)),
         // There are tables only where a certificate is wanted.
         Answered::Tabled(_) => unreachable!(),
-        Answered::Bare { graph, first, .. } => Ok(Found::Resolved { graph, first }),
+        Answered::Bare { graph, first, .. } => Ok(FoundAnswer::Resolved { graph, first }),
     }
 }

@@ -12,7 +12,7 @@ mod rows;
 mod running;
 mod telling;
 
-pub use objects::Asked;
+pub use objects::ReportOptions;
 pub use running::run_full;
 pub use tcc_print::RunContext;
 pub use tcc_txn::Limits;

@@ -26,7 +26,7 @@ use tcc_txn::{Bounds, Limits, MAX_OPERATIONS, NoMemory};
 
 /// What was asked for, and of which version of the program.
 #[derive(Clone, Copy)]
-pub struct Asked<'a> {
+pub struct ReportOptions<'a> {
     pub version: &'a str,
     pub level: Level,
     pub limits: Limits,
@@ -36,7 +36,7 @@ pub struct Asked<'a> {
 #[derive(Drop)]
 pub(crate) struct Report<'a, B: Bounds> {
     pub alloc: Global,
-    pub asked: &'a Asked<'a>,
+    pub asked: &'a ReportOptions<'a>,
     pub lookup: &'a Lookup<'a, B>,
 }
 
@@ -253,7 +253,7 @@ impl<B: Bounds> Report<'_, B> {
 
 fn none_json(
     alloc: Global,
-    asked: &Asked,
+    asked: &ReportOptions,
     fault: Value,
     status: Status,
 ) -> Result<Value, AllocError>
@@ -271,7 +271,11 @@ fn none_json(
 }
 
 /// The line of records of which one has a fault, or whose reader failed.
-pub(crate) fn row_line(alloc: Global, asked: &Asked, fault: &RowFault) -> Result<Vec<u8>, NoMemory>
+pub(crate) fn row_line(
+    alloc: Global,
+    asked: &ReportOptions,
+    fault: &RowFault,
+) -> Result<Vec<u8>, NoMemory>
     ensures { IfOk result (λ line. line.items ≡ json_line (none_json asked.now (row_fault_json fault.now) (row_status fault.now.kind))) }
 {
     let status = row_status(&fault.kind);
@@ -282,7 +286,7 @@ pub(crate) fn row_line(alloc: Global, asked: &Asked, fault: &RowFault) -> Result
 /// The line of records that could not be judged for another reason, which the word names.
 pub(crate) fn ended_line(
     alloc: Global,
-    asked: &Asked,
+    asked: &ReportOptions,
     word: &str,
     status: Status,
 ) -> Result<Vec<u8>, NoMemory>

@@ -3,8 +3,8 @@ ghost use Rattle.std.specs.Prelude.{◌≡◌, ◌++◌, ℕ, Err, IfSome, Match
 ghost use Rattle.tcc_rows.specs.Recordings.{IsRecorded};
 ghost use Rattle.tcc_full.specs.{Runs.IsFullRun, private.Notes.AreNotesOf};
 
-use crate::finding::{Found, find};
-use crate::objects::Asked;
+use crate::finding::{FoundAnswer, find};
+use crate::objects::ReportOptions;
 use crate::reading::{Failed, within};
 use crate::telling::{tell_fault, tell_found, tell_memory};
 use std::alloc::Global;
@@ -22,23 +22,23 @@ use tcc_verdict::recorded;
 fn note<B: Bounds, N: Write>(
     alloc: Global,
     snapshot: &SnapshotWithin<B>,
-    found: &Found,
+    found: &FoundAnswer,
     required: u32,
     notes: &mut N,
 )
     ensures { AreNotesOf required snapshot.now found.now (N.contents notes.old) (N.contents notes.new) }
 {
     match found {
-        Found::Unresolved(faults) => {
+        FoundAnswer::Unresolved(faults) => {
             note_reads(alloc, snapshot, faults, notes);
         }
-        Found::Resolved {
+        FoundAnswer::Resolved {
             first: First::Order(order),
             ..
         } => {
             note_order(alloc, order, required, notes);
         }
-        Found::Resolved {
+        FoundAnswer::Resolved {
             first: First::Cycle(_),
             ..
         } => {}
@@ -46,9 +46,9 @@ fn note<B: Bounds, N: Write>(
 }
 
 /// Tells what is found for all that the records of a text finish, with the rows of its operations.
-fn say<T: Threads + Sync, G: Gate, B: AnsweredBounds, W: Write, N: Write>(
+fn answer_checkpoint<T: Threads + Sync, G: Gate, B: AnsweredBounds, W: Write, N: Write>(
     run: &RunContext<T, G>,
-    asked: &Asked,
+    asked: &ReportOptions,
     text: &[u8],
     snapshot: &SnapshotWithin<B>,
     out: &mut W,
@@ -71,7 +71,7 @@ fn say<T: Threads + Sync, G: Gate, B: AnsweredBounds, W: Write, N: Write>(
 /// The run of a text whose records have no fault; else that fault.
 fn run_lawful<T: Threads + Sync, G: Gate, W: Write, N: Write>(
     run: &RunContext<T, G>,
-    asked: &Asked,
+    asked: &ReportOptions,
     text: &[u8],
     out: &mut W,
     notes: &mut N,
@@ -83,11 +83,11 @@ fn run_lawful<T: Threads + Sync, G: Gate, W: Write, N: Write>(
     match asked.limits {
         Limits::Small => {
             let recording: Recording<&[u8]> = recorded(run.alloc, text, notes)?;
-            Ok(say(run, asked, text, recording.snapshot(), out, notes))
+            Ok(answer_checkpoint(run, asked, text, recording.snapshot(), out, notes))
         }
         Limits::Large => {
             let recording: LargeRecording<&[u8]> = recorded(run.alloc, text, notes)?;
-            Ok(say(run, asked, text, recording.snapshot(), out, notes))
+            Ok(answer_checkpoint(run, asked, text, recording.snapshot(), out, notes))
         }
     }
 }
@@ -116,7 +116,7 @@ fn fault_of<R: Read + Drop, B: Bounds, N: Write>(
 /// The run of a text after which the reader failed.
 fn run_failed<R: Read + Drop, W: Write, N: Write>(
     alloc: Global,
-    asked: &Asked,
+    asked: &ReportOptions,
     text: &[u8],
     reader: R,
     out: &mut W,
@@ -138,7 +138,7 @@ fn run_failed<R: Read + Drop, W: Write, N: Write>(
 /// records or reads have faults, goes to the notes.
 pub fn run_full<T: Threads + Sync, G: Gate, R: Read + Drop, W: Write, N: Write>(
     run: &RunContext<T, G>,
-    asked: &Asked,
+    asked: &ReportOptions,
     reader: R,
     out: &mut W,
     notes: &mut N,

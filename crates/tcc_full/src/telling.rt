@@ -6,9 +6,9 @@ ghost use Rattle.tcc_full.specs.{Records.records_of, Rows.HasRowsOf, declared.ro
 ghost use Rattle.tcc_full.specs.FullAnswer.{IsFound, first_json, found_json, found_status, order_json, records_by, records_with};
 ghost use Rattle.tcc_full.specs.Runs.{TellsDevice, TellsFault, TellsFound, TellsMemory};
 
-use crate::finding::Found;
+use crate::finding::FoundAnswer;
 use crate::lookup::Lookup;
-use crate::objects::{Asked, Report, ended_line, row_line};
+use crate::objects::{Report, ReportOptions, ended_line, row_line};
 use crate::rows::operation_rows;
 use std::alloc::Global;
 use std::io::Write;
@@ -51,27 +51,27 @@ fn first_line<B: Bounds>(
 fn found_line<B: Bounds>(
     report: &Report<B>,
     required: u32,
-    found: &Found,
+    found: &FoundAnswer,
 ) -> Result<Vec<u8>, NoMemory>
     ensures { IfOk result (λ line. line.items ≡ json_line (found_json report.now.asked.now required (records_of report.now.lookup.now) found.now)) }
 {
     match found {
-        Found::Unresolved(faults) => report.unresolved_line(faults),
-        Found::Resolved { first, .. } => first_line(report, required, first),
+        FoundAnswer::Unresolved(faults) => report.unresolved_line(faults),
+        FoundAnswer::Resolved { first, .. } => first_line(report, required, first),
     }
 }
 
 /// How a run ends that tells what is found.
-pub(crate) fn found_status(found: &Found, required: u32) -> Status
+pub(crate) fn found_status(found: &FoundAnswer, required: u32) -> Status
     ensures { result ≡ found_status required found.now }
 {
     match found {
-        Found::Unresolved(_) => Status::ReadFaults,
-        Found::Resolved {
+        FoundAnswer::Unresolved(_) => Status::ReadFaults,
+        FoundAnswer::Resolved {
             first: First::Order(order),
             ..
         } => order_status(order, required),
-        Found::Resolved {
+        FoundAnswer::Resolved {
             first: First::Cycle(_),
             ..
         } => Status::Anomaly,
@@ -81,11 +81,11 @@ pub(crate) fn found_status(found: &Found, required: u32) -> Status
 /// The line of what is found for a snapshot, by a graph, with the rows of the operations in a text.
 fn line_by<T, G, B: Bounds>(
     run: &RunContext<T, G>,
-    asked: &Asked,
+    asked: &ReportOptions,
     text: &[u8],
     snapshot: &SnapshotWithin<B>,
     graph: &LargeGraph,
-    found: &Found,
+    found: &FoundAnswer,
 ) -> Result<Vec<u8>, NoMemory>
     ensures { IfOk result (λ line. (rows : OperationRows) × HasRowsOf text.now rows
         × (line.items ≡ json_line (found_json asked.now run.now.options.now.required (records_with snapshot.now graph.now rows) found.now))) }
@@ -121,27 +121,27 @@ fn traced_graph<B: Bounds>(
 /// The line of what is found for a snapshot, with the rows of the operations in a text.
 fn told_line<T, G, B: Bounds>(
     run: &RunContext<T, G>,
-    asked: &Asked,
+    asked: &ReportOptions,
     text: &[u8],
     snapshot: &SnapshotWithin<B>,
-    found: &Found,
+    found: &FoundAnswer,
 ) -> Result<Vec<u8>, NoMemory>
     requires { IsFound asked.now.level snapshot.now found.now }
     ensures { IfOk result (λ line. (rows : OperationRows) × HasRowsOf text.now rows
         × (line.items ≡ json_line (found_json asked.now run.now.options.now.required (records_by snapshot.now rows) found.now))) }
 {
     match found {
-        Found::Unresolved(_) => {
+        FoundAnswer::Unresolved(_) => {
             // Of its transactions only the number is reported, and no read changes that.
             let graph = traced_graph(run.alloc, snapshot)?;
             line_by(run, asked, text, snapshot, &graph, found)
         }
-        Found::Resolved { graph, .. } => line_by(run, asked, text, snapshot, graph, found),
+        FoundAnswer::Resolved { graph, .. } => line_by(run, asked, text, snapshot, graph, found),
     }
 }
 
 /// Tells that memory is out.
-pub(crate) fn tell_memory<W: Write>(alloc: Global, asked: &Asked, out: &mut W) -> u8
+pub(crate) fn tell_memory<W: Write>(alloc: Global, asked: &ReportOptions, out: &mut W) -> u8
     ensures { TellsMemory asked.now (W.contents out.old) (W.contents out.new) result }
 {
     match ended_line(alloc, asked, "memory", Status::Memory) {
@@ -153,10 +153,10 @@ pub(crate) fn tell_memory<W: Write>(alloc: Global, asked: &Asked, out: &mut W) -
 /// Tells what is found for a snapshot, with the rows of the operations in a text.
 pub(crate) fn tell_found<T, G, B: Bounds, W: Write>(
     run: &RunContext<T, G>,
-    asked: &Asked,
+    asked: &ReportOptions,
     text: &[u8],
     snapshot: &SnapshotWithin<B>,
-    found: &Found,
+    found: &FoundAnswer,
     out: &mut W,
 ) -> u8
     requires { IsFound asked.now.level snapshot.now found.now }
@@ -172,7 +172,7 @@ pub(crate) fn tell_found<T, G, B: Bounds, W: Write>(
 /// Tells the fault of the records, or that of their reader.
 pub(crate) fn tell_fault<W: Write>(
     alloc: Global,
-    asked: &Asked,
+    asked: &ReportOptions,
     fault: &RowFault,
     out: &mut W,
 ) -> u8
@@ -189,7 +189,12 @@ pub(crate) fn tell_fault<W: Write>(
 }
 
 /// Tells that the records could not be opened: a device failed, or memory was out.
-pub fn tell_unread<W: Write>(alloc: Global, asked: &Asked, is_memory_out: bool, out: &mut W) -> u8
+pub fn tell_unread<W: Write>(
+    alloc: Global,
+    asked: &ReportOptions,
+    is_memory_out: bool,
+    out: &mut W,
+) -> u8
     ensures device { is_memory_out ≡ false → TellsDevice asked.now (W.contents out.old) (W.contents out.new) result
         ⊎ TellsMemory asked.now (W.contents out.old) (W.contents out.new) result }
     ensures memory { is_memory_out ≡ true → TellsMemory asked.now (W.contents out.old) (W.contents out.new) result }

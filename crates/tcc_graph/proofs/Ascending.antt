@@ -1,4 +1,4 @@
--- Readings stand in order, each once: by the number of their group, and in a group as its values do.
+-- Readings are in order, each once: by the number of their group, and in a group by their values.
 use Rattle.std.proofs.Common.{ℕ, zero, suc, ◌+◌, ◌<◌, ◌≡◌, Bool, true, false, cond, List, [], ◌∷◌, ◌++◌, length, refl, sym, ap, ◌∙◌, subst, arith, inl, inr}
 use Rattle.std.specs.Prelude.{All, map, filter, ◌==◌}
 use Rattle.std.specs.List.{AllByRecursion, range_with_len}
@@ -63,7 +63,7 @@ module _ {X : Type 0} (cmp : X → X → Ordering) where
       (all_more (λ p. p.0 < n) (λ p. p.0 < suc n) (λ p less. omega arith) (groups values n) (below_number values n))
       (all_more (λ p. p.0 ≡ n) (λ p. p.0 < suc n) (λ p same. omega (arith, same)) (as_group n (values n)) (of_number n (values n)))
 
-  -- groups of lists in order stand in order
+  -- groups of lists in order are in order
   pub groups_sorted : (values : ℕ → List X) (n : ℕ) → ((g : ℕ) → g < n → IsStrictlySortedBy cmp (values g))
       → IsStrictlySortedBy (by_number cmp) (groups values n)
   unfolding IsStrictlySortedBy

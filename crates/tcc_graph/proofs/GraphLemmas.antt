@@ -1,4 +1,4 @@
--- What the tables of a graph answer.
+-- What the tables of a graph return.
 use Rattle.std.proofs.Common.{ℕ, zero, suc, ◌+◌, ◌<◌, ◌≡◌, Bool, true, false, List, [], ◌∷◌, ◌++◌, length, get_or, refl, sym, ap, subst, ◌∙◌, arith, zero-add}
 use Rattle.std.specs.Prelude.{All, filter, map, zip, ◌↔◌, ◌==◌, ◌||◌}
 use Rattle.std.specs.List.{Contains, range_with_len}
@@ -30,7 +30,7 @@ pub has_items-map : {X Y : Type 0} (f : X → Y) (xs : List X) → has_items (ma
 has_items-map f [] = refl
 has_items-map f (x ∷ xs) = refl
 
--- where no session pair is, a causal pair is one of reads
+-- if two transactions are not a session pair, a causal pair of them is one of reads
 pub causal_at : (h : History) (a b : ℕ) → a < count h → b < count h → session_pair h a b ≡ false → (r : Bool) → r ≡ has_items (reads_from h a b)
     → r ≡ causal_pair h a b
 causal_at h a b from to none r is = rw (none, lt-ltb a (count h) from, lt-ltb b (count h) to) is

@@ -1,4 +1,4 @@
--- What the indices of keys say of their names.
+-- What the indices of keys say about their names.
 use Rattle.std.proofs.Common.{ℕ, zero, suc, ◌<◌, ◌≡◌, ◌⊎◌, Bool, true, false, List, [], ◌∷◌}
 use Rattle.std.proofs.Common.{length, get_or, refl, sym, ap, ◌∙◌, arith, inl, inr}
 use Rattle.std.specs.Prelude.{All, map, ◌==◌, ◌||◌, bytes_eq}
@@ -20,7 +20,7 @@ use Rattle.tcc_graph.proofs.NameLemmas.{bytes_eq-same, bytes_eq-other, indices_d
 use Rattle.tcc_graph.proofs.KeysLemmas.{has_name-keys}
 
 module _ (names : List (List ℕ)) (sorted : IsStrictlySortedBy name_cmp names) where
-  -- names are equal where their indices are
+  -- names are equal exactly if their indices are
   pub same_index : (j k : ℕ) → j < length names → k < length names → bytes_eq (name_of names k) (name_of names j) ≡ (j == k)
   same_index j k h i = elim (cases_eq j k) [
     | inl e ↦ rw (e, eq-eqb k k refl) (bytes_eq-same (name_of names k) (name_of names k) refl)
@@ -43,14 +43,14 @@ module _ (names : List (List ℕ)) (sorted : IsStrictlySortedBy name_cmp names) 
         | inr ne ↦ rw (ne_eqb j k ne) (bytes_eq-other (name_of names j) (name_of names k) (λ same. indices_differ names j k sorted i h ne same))
       ]
 
-  -- a name is among those at the indices where its own index is among them
+  -- a name is among those at the indices exactly if its own index is among them
   pub has_name-indices : (indices : List ℕ) (k : ℕ) → All (λ j. j < length names) indices → k < length names
       → has_name (map (name_of names) indices) (name_of names k) ≡ list_any (λ j. j == k) indices
   has_name-indices [] k all h = refl
   has_name-indices (j ∷ indices) k all h =
       rw (same_index j k (all 0 j (omega arith)) h) (ap (λ b. (j == k) || b) (has_name-indices indices k (λ i d l. all (suc i) d (omega arith)) h))
 
--- what is read from a, by names, is what the indices say
+-- what is read from a, by names, follows from the indices
 pub values_from-named : (names : List (List ℕ)) (reads : List (ℕ × ℕ)) (a : ℕ) → values_from (named names reads) a ≡ map (name_of names) (values_from reads a)
 values_from-named names [] a = refl
 values_from-named names (read ∷ reads) a = go (read.1 == a) refl (values_from-named names reads a)
@@ -73,7 +73,7 @@ values_within n (read ∷ reads) a all = go (read.1 == a) refl (values_within n 
         here (suc k) d h rest = rest k d (omega arith)
     go false e rest = rw e rest
 
--- where each of some reads by indices has its source below n, those by names have, and the other way round
+-- if each of some reads by indices has its source below n, so has each by names, and conversely
 pub sources_named : (names : List (List ℕ)) (n : ℕ) (reads : List (ℕ × ℕ)) → All (λ read. read.1 < n) (named names reads) → All (λ read. read.1 < n) reads
 sources_named names n [] all = λ k d h. absurd (omega arith)
 sources_named names n (read ∷ reads) all =
@@ -86,8 +86,7 @@ sources_named names n (read ∷ reads) all =
         item zero d h rest here = here
         item (suc k) d h rest here = rest k d (omega arith)
 
--- a name that is there has an index
--- what holds of the values of all groups
+-- what holds for the values of each group holds for all
 pub values_in_groups : (P : ℕ → Type 0) (values : ℕ → List ℕ) (m : ℕ) → ((b : ℕ) → b < m → All P (values b)) → All (λ p. P p.1) (groups values m)
 values_in_groups P values zero all = λ k d h. absurd (omega arith)
 values_in_groups P values (suc m) all =
@@ -105,7 +104,7 @@ row_within indexed n within table tables a inside row is =
     whole : row ≡ groups (λ b. values_from (indexed_of indexed b).reads a) (length indexed)
     whole = get_or_read table a row inside is [] ∙ tables.rows a (omega (arith, tables.long))
 
--- what holds of all keys of a transaction holds of those that it reads
+-- what holds for all keys of a transaction holds for those that it reads
 pub keys_read : (P : List ℕ → Type 0) (e : Entry) → All P (keys_of e) → All (λ read. P read.0) e.reads
 keys_read P e all k d h =
     All-contains P (keys_of e) (get_or e.reads k d).0 all
@@ -127,7 +126,7 @@ owner_is sessions names indexed n = ap (λ (e : Entry). e.owner) (entry_is names
 pub place_is : (sessions names : List (List ℕ)) (indexed : List Indexed) (n : ℕ) → place (history_of sessions names indexed) n ≡ (indexed_of indexed n).place
 place_is sessions names indexed n = ap (λ (e : Entry). e.place) (entry_is names indexed n)
 
--- the transactions that are indexed, by their names again
+-- the indexed transactions, by their names again
 pub names_again : (names : List (List ℕ)) (entries : List Entry) (indexed : List Indexed) → AreIndexed names entries indexed → entries_of names indexed ≡ entries
 names_again names entries indexed are = same_lists (entries_of names indexed) entries long (λ n d inside.
     let below : n < length entries = omega (arith, inside, long) in
@@ -145,11 +144,11 @@ names_again names entries indexed are = same_lists (entries_of names indexed) en
         go e owner place writes reads = rw (owner, place, writes, reads) refl
 
 module _ (names : List (List ℕ)) (entries : List Entry) (indexed : List Indexed) (are : AreIndexed names entries indexed) where
-  -- indices of keys that are written are within the names
+  -- indices of written keys are below the count of names
   pub writes_within : All (λ p. All (λ k. k < length names) p.writes) indexed
   writes_within n d h = rw (get_or_default indexed n d unindexed h) ((are.each n (omega (arith, are.long))).writes_within)
 
-  -- indices of keys that are read are within the names
+  -- indices of read keys are below the count of names
   pub reads_within : All (λ p. All (λ read. read.0 < length names) p.reads) indexed
   reads_within n d h = rw (get_or_default indexed n d unindexed h) ((are.each n (omega (arith, are.long))).reads_within)
 

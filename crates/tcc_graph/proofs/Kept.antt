@@ -20,7 +20,7 @@ use Rattle.tcc_graph.proofs.Linking.{derived_cost, cost_cons}
 use Rattle.tcc_graph.proofs.Pairs.{initial_pair, pair_parts}
 use Rattle.tcc_graph.specs.Renumbered.{LeadOn, link_by, step_by}
 
--- the numbers of h go to numbers of k that have what they have
+-- the numbers of h are mapped to numbers of k that have what they have
 pub record IsKept (h : History) (k : History) (f : ℕ → ℕ) : Type 0 where
   pub first : f 0 ≡ 0
   pub some : (n : ℕ) → 0 < n → n < count h → 0 < f n
@@ -66,7 +66,7 @@ module _ (f : ℕ → ℕ) where
   moved_costs (l ∷ links) =
       omega (arith, cost_cons (link_by f l) (map (link_by f) links), cost_cons l links, moved_cost l, moved_costs links)
 
-  -- where each of them is a link, links lead on as they do here
+  -- if each of them is a link, the mapped links lead on as the links do
   lead_by : (j : Judged) (a b : ℕ) (links : List Link) → LeadOn a b links → All (IsLink j) (map (link_by f) links)
       → LinksLead j (f a) (f b) (map (link_by f) links)
   lead_by j a b [] p all = ap f p
@@ -81,7 +81,7 @@ module _ (f : ℕ → ℕ) where
       → IsCycle j (f s) (map (link_by f) links) × (cost (map (link_by f) links) ≡ cost links)
   cycle_by j s links some lead all = ((omega (arith, length-map links (link_by f)), lead_by j s s links lead all), moved_costs links)
 
--- where the numbers stay, so does the link
+-- if the numbers stay, so does the link
 same_step : (s : Step) → step_by (λ n. n) s ≡ s
 same_step (step.Session a b) = refl
 same_step (step.Reads a b x) = refl
@@ -95,7 +95,7 @@ same_link (link.Session a b) = refl
 same_link (link.Reads a b x) = refl
 same_link (link.Derived b a x c walk) = ap (link.Derived b a x c) (same_steps walk)
 
--- links that lead somewhere do so by their numbers
+-- links that lead from a to b do so by their numbers
 pub leads_on : (j : Judged) (a b : ℕ) (links : List Link) → LinksLead j a b links → LeadOn a b links
 leads_on j a b [] p = p
 leads_on j a b (l ∷ links) p = (p.0, leads_on j (link_to l) b links p.2)
@@ -154,7 +154,7 @@ module _ (h k : History) (f : ℕ → ℕ) (kept : IsKept h k f) where
 
   -- ---- routes and cycles
 
-  -- links that lead somewhere are links there
+  -- links that lead from a to b are mapped to links of k
   pub all_kept : (v : Level) (a b : ℕ) (links : List Link) → LinksLead (judged h v) a b links
       → All (IsLink (judged k v)) (map (link_by f) links)
   all_kept v a b [] p = All-nil (IsLink (judged k v))

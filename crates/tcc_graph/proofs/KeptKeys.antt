@@ -1,4 +1,4 @@
--- The names that are marked, and the indices that they have among themselves.
+-- The marked names, and their indices among each other.
 use Rattle.std.proofs.Common.{ℕ, zero, suc, ◌+◌, ◌<◌, ◌≡◌, Bool, true, false, List, [], ◌∷◌, ◌++◌, length, get_or, set, refl, sym, ap, subst, inl, inr, ◌⊎◌, ◌∙◌, arith}
 use Rattle.std.proofs.Common.{append_assoc, drop, length-append, take}
 use Rattle.std.specs.Prelude.{All, map}
@@ -16,7 +16,7 @@ use Rattle.tcc_graph.specs.private.Marks.{is_marked, kept_of, moved_by, rank_at,
 use Rattle.tcc_graph.specs.private.ReadTables.{UsesOnly}
 use Rattle.tcc_graph.proofs.SortedKeys.{below_head, sorted_cons, sorted_none}
 
--- what holds of each name that is marked holds of those that are kept
+-- what holds for each marked name holds for those that are kept
 pub all_kept : (P : List ℕ → Type 0) (names : List (List ℕ)) (marks : List Bool)
     → ((k : ℕ) → k < length names → get_or marks k false ≡ true → P (name_of names k)) → All P (kept_of names marks)
 all_kept P [] marks each = All-nil P
@@ -33,7 +33,7 @@ kept_sorted (x ∷ xs) (true ∷ marks) sorted =
     sorted_cons x (kept_of xs marks) (all_kept (λ y. name_cmp x y ≡ Less) xs marks (λ k h at. below k [] h)) (kept_sorted xs marks (sorted_tail name_cmp x xs sorted))
 kept_sorted (x ∷ xs) (false ∷ marks) sorted = kept_sorted xs marks (sorted_tail name_cmp x xs sorted)
 
--- a name that is marked stands at its rank, behind those that were kept before
+-- a marked name is at its rank, after those that were kept before
 rank_behind : (done names : List (List ℕ)) (marks : List Bool) (k : ℕ) → k < length names → get_or marks k false ≡ true
     → IsNumber (done ++ kept_of names marks) (name_of names k) (rank_at (ranks_from (length done) marks) k)
 rank_behind done [] marks k h at = absurd (omega (arith, h))
@@ -133,7 +133,7 @@ mark_kept marks i k inside at = go (cases_eq k i)
 pub mark_here : (marks : List Bool) (i : ℕ) → i < length marks → is_marked (set marks i true) i ≡ true
 mark_here marks i inside = get_or-set_same marks i true false inside
 
--- of a list one more has what all before it have, also after they were given more
+-- one more item of a list has what all before it have, even if these then have something weaker
 pub one_taken : {X : Type 0} (P Q : X → Type 0) → ((x : X) → P x → Q x) → (xs : List X) (i : ℕ) (d : X) → i < length xs → All P (take i xs) → Q (get_or xs i d)
     → All Q (take (i + 1) xs)
 one_taken P Q weaker xs i d inside before here =
@@ -147,7 +147,7 @@ uses_kept old new more p uses = record {
   reads = All-weaker (λ (read : ℕ × ℕ). is_marked old read.0 ≡ true) (λ (read : ℕ × ℕ). is_marked new read.0 ≡ true) (λ read. more read.0) p.reads uses.reads;
 }
 
--- ---- one name more
+-- ---- one more name
 
 module _ (names : List (List ℕ)) (marks : List Bool) (i : ℕ) (d : List ℕ) (inside : i < length names) (long : length marks ≡ length names) where
   later_names : drop i names ≡ get_or names i d ∷ drop (i + 1) names

@@ -56,7 +56,7 @@ list_any-at p [] none k d h = absurd (omega arith)
 list_any-at p (x ∷ xs) none zero d h = (or_parts (p x) (list_any p xs) none).0
 list_any-at p (x ∷ xs) none (suc k) d h = list_any-at p xs (or_parts (p x) (list_any p xs) none).1 k d (omega arith)
 
--- some of the reads read no key that all of them don't read
+-- if no read has a key, none of some of these reads has it
 has_name-filter : (p : List ℕ × ℕ → Bool) (reads : List (List ℕ × ℕ)) (x : List ℕ) → has_name (map (λ read. read.0) reads) x ≡ false
     → has_name (map (λ read. read.0) (filter p reads)) x ≡ false
 has_name-filter p [] x none = refl
@@ -69,7 +69,7 @@ has_name-filter p (r ∷ reads) x none =
     go rest other true e = rw e (rw (other, rest) refl)
     go rest other false e = rw e rest
 
--- nobody reads a name that is no key
+-- nobody reads a name that is not a key
 no_reads : (h : History) (x : List ℕ) (a : ℕ) (b : ℕ) → is_key h x ≡ false → has_name (reads_from h a b) x ≡ false
 no_reads h x a b none = elim (cases_lt b (length h.entries)) [
   | inl below ↦ (

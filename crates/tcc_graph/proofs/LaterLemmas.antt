@@ -19,7 +19,7 @@ all_later h v some = (
   (λ w. initial_pair h 0 v (omega arith) some (omega (arith, w.0)) w.1),
 )
 
--- numbers below `end` are of no later session than u, and those from there on of a later one
+-- numbers below `end` are of no later session than u, and those from `end` on are of a later one
 module _ (h : History) (ordered : IsBySession h.entries) (u end : ℕ) (some : 0 < u) (below : u < count h) (within : end ≤ count h)
     (before : (k : ℕ) → k < end → owner h k ≤ owner h u) (after : (k : ℕ) → end ≤ k → k < count h → owner h u < owner h k) where
   past : u < end
@@ -75,11 +75,11 @@ module _ (sessions names : List (List ℕ)) (indexed : List Indexed) (ordered : 
           rw (← owner_is sessions names indexed i, ← owner_is sessions names indexed j) rises
       go i j below (inr more) upto = let same : i ≡ j = omega (arith, more, upto) in omega (arith, ap (λ n. (indexed_of indexed n).owner) same)
 
-  -- what a search for the first transaction of a later session asks
+  -- what a search for the first transaction of a later session requires
   pub parted : (mine : ℕ) → IsPartitionedBy (λ (p : Indexed). nat_le p.owner mine) indexed
   parted mine = IsPartitionedBy-leb (λ (p : Indexed). p.owner) indexed mine owners_rise
 
-  -- what the answer of a search for the first transaction of a later session says
+  -- what the result of a search for the first transaction of a later session says
   module _ (u end : ℕ) (below : u < count h) (within : end ≤ count h)
       (point : IsPartitionPoint (λ (p : Indexed). nat_le p.owner (indexed_of indexed u).owner ≡ true)
       (λ (p : Indexed). nat_le p.owner (indexed_of indexed u).owner ≡ false) indexed end) where

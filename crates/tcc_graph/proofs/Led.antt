@@ -1,11 +1,11 @@
--- Steps, one after the other: what is left to ask of them.
+-- Steps, one after another: what is left to check of them.
 use Rattle.std.proofs.Common.{◌≡◌, ◌<◌, ◌≤◌, ◌+◌, ℕ, List, ◌∷◌, length, get_or, drop, sym, ap, subst, ◌∙◌}
 use Rattle.std.proofs.lemmas.List.{drop_more, drop_all}
 use Rattle.tcc_reads.specs.History.{History}
 use Rattle.tcc_graph.specs.Walks.{step_from, step_to, IsStep, Leads}
 use Rattle.tcc_graph.specs.declared.step.Step.{Step}
 
--- the steps lead from the start exactly where those after the first i lead from here
+-- the steps lead from the start exactly if those after the first i lead from here
 pub record IsRestOf (h : History) (from at to i : ℕ) (steps : List Step) : Type 0 where
   pub forth : Leads h from to steps → Leads h at to (drop i steps)
   pub back : Leads h at to (drop i steps) → Leads h from to steps

@@ -14,7 +14,7 @@ use Rattle.tcc_graph.proofs.Pairs.{link_below}
 
 -- ---- costs
 
--- a derived link costs a step more than its walk
+-- a derived link costs one step more than its walk
 pub derived_cost : (b a : ℕ) (x : List ℕ) (c : ℕ) (walk : List Step) → link_cost (link.Derived b a x c walk) ≡ length walk + 1
 derived_cost b a x c walk = length-append walk (step.Reads a c x ∷ [])
 
@@ -35,7 +35,7 @@ cost_around front l rest = omega (arith, cost_append front (l ∷ rest), cost_co
 pub one_cost : (l : Link) → cost (l ∷ []) ≡ link_cost l
 one_cost l = omega (arith, cost_cons l [])
 
--- links that cost nothing are none
+-- a list of links that costs nothing is empty
 pub no_links : (links : List Link) → cost links ≡ 0 → links ≡ []
 no_links [] e = refl
 no_links (l ∷ links) e = absurd (omega (arith, cost_cons l links, some_cost l))
@@ -78,7 +78,7 @@ route_below j s v (l ∷ links) (some, lead) = let ends = link_below j l lead.1 
 pub link_route : (j : Judged) (a b : ℕ) (l : Link) → link_from l ≡ a → link_to l ≡ b → IsLink j l → IsRoute j a b (l ∷ [])
 link_route j a b l from to is = (omega arith, (from, is, to))
 
--- one link more
+-- one more link
 pub route_on : (j : Judged) (s a b : ℕ) (links : List Link) (l : Link) → IsRoute j s a links → link_from l ≡ a → link_to l ≡ b → IsLink j l
     → IsRoute j s b (links ++ l ∷ []) × (cost (links ++ l ∷ []) ≡ cost links + link_cost l)
 route_on j s a b links l route from to is =

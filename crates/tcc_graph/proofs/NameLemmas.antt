@@ -84,7 +84,7 @@ has_name-more names j name x h is =
     rw (take_more names j name h, list_any-append (bytes_eq x) (take j names) (get_or names j name ∷ []), ← is)
     (ap (λ b. has_name (take j names) x || b) (or-false (bytes_eq x name)))
 
--- a name is found exactly where it stands in the list
+-- a name is found exactly if it is in the list
 pub has_name-contains : (names : List (List ℕ)) (x : List ℕ) → has_name names x ≡ true → Contains names x
 has_name-contains [] x h = absurd (false≢true h)
 has_name-contains (y ∷ names) x h = go (has_name-contains names x) (or_cases (bytes_eq x y) (has_name names x) h)

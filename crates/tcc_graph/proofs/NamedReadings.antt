@@ -21,7 +21,7 @@ use Rattle.tcc_graph.specs.Readings.{AreReadings, AreReadingsByIndex}
 use Rattle.tcc_graph.proofs.SortedKeys.{keys_sorted}
 use Rattle.tcc_graph.proofs.WriterLemmas.{key_place}
 
--- the name in the place of the index
+-- the name in place of the index
 abbrev pub with_name : List (List ℕ) → ℕ × ℕ → ℕ × List ℕ
 with_name names p = (p.0, name_of names p.1)
 
@@ -64,7 +64,7 @@ module _ (names : List (List ℕ)) (sorted : IsStrictlySortedBy name_cmp names) 
   order_named (c ∷ numbers) [] within all = tt
   order_named (c ∷ numbers) (k ∷ indices) within all = (above_named (c, k) numbers indices within.1 all.0, order_named numbers indices within.1 all.1)
 
--- the readings of a, each with its key's name in the place of the index
+-- the readings of a, each with its key's name in place of the index
 pub named_readings : (h : History) (a : ℕ) (readers indices : List ℕ) → AreReadingsByIndex h a readers indices → AreReadings h a readers (map (key_at h) indices)
 named_readings h a readers indices are = record {
   long = are.long ∙ sym (length-map indices (key_at h));

@@ -1,10 +1,10 @@
--- Where numbers stand in an order.
+-- The index of a number in an order.
 use Rattle.std.proofs.Common.{◌≡◌, ◌≢◌, ◌<◌, ◌≤◌, ℕ, ◌⊎◌, inl, inr, List, length, get_or, arith, sym, ◌∙◌}
 use Rattle.std.proofs.lemmas.Bool.{cases_order}
 use Rattle.std.proofs.lemmas.List.{get_or_default}
 use Rattle.tcc_graph.specs.Orders.{Before, IsNumbering}
 
--- a number stands at one index alone
+-- a number is at one index only
 pub one_index : {n : ℕ} {order : List ℕ} → IsNumbering n order → (i j : ℕ) → i < length order → j < length order → get_or order i 0 ≡ get_or order j 0 → i ≡ j
 one_index {n} {order} h i j l m e = go (cases_order i j)
   where
@@ -26,7 +26,7 @@ not_the_other_way h i j a b l m at_a at_b low (p, q, less, within, here_b, here_
     let two = one_index h j p m (omega arith) (at_b ∙ sym here_b) in
     absurd (omega arith)
 
--- of two numbers one stands before the other
+-- of two numbers one is before the other
 pub order_of_two : {n : ℕ} {order : List ℕ} → IsNumbering n order → (b a : ℕ) → b < n → a < n → b ≢ a → ((Before order b a → ⊥) → ⊥) → Before order b a
 order_of_two {n} {order} h b a b_below a_below differ at_last = go (has_index h b b_below) (has_index h a a_below)
   where

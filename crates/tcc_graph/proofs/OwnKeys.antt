@@ -1,4 +1,4 @@
--- Names in order, of which a history's transactions write or read each, are its keys.
+-- Names in order, each written or read by a history's transactions, are its keys.
 use Rattle.std.proofs.Common.{ℕ, ◌<◌, ◌≡◌, ◌⊎◌, Bool, true, false, ◌||◌, List, [], ◌∷◌, ◌++◌, length, get_or, refl, sym, ap, subst, ◌∙◌, arith, inl, inr}
 use Rattle.std.proofs.Common.{length-append, replicate, set}
 use Rattle.std.specs.Prelude.{All, map, bytes_eq}
@@ -25,7 +25,7 @@ use Rattle.tcc_graph.proofs.SortedKeys.{keys_sorted}
 use Rattle.tcc_graph.specs.private.Marks.{is_marked, kept_of, moved_by, ranks_from}
 use Rattle.tcc_graph.proofs.KeptKeys.{all_kept, kept_sorted, moved_same, moved_within}
 
--- what holds of what a function gives holds of it at each item
+-- what holds for the image of each item holds for each item through the function
 unmapped : {X Y : Type 0} (f : X → Y) (P : Y → Type 0) (xs : List X) → All P (map f xs) → All (λ x. P (f x)) xs
 unmapped f P xs all k d h = subst P (get_or-map f xs k d (f d) h) (all k (f d) (omega (arith, h, length-map xs f)))
 
@@ -131,11 +131,11 @@ one_marked passes marks i here before k h at = go (cases_eq k i)
 pub none_marked : (passes : ℕ → Bool) (count : ℕ) → MarksOnly passes (replicate count false)
 none_marked passes count k h at = absurd (false≢true (sym (get_or-replicate count k false false (omega (arith, h, length-replicate count false))) ∙ at))
 
--- where all are marked, all pass
+-- if all are marked, all pass
 pub each_passes : (passes : ℕ → Bool) (marks : List Bool) → MarksOnly passes marks → All (λ mark. mark ≡ true) marks → (k : ℕ) → k < length marks → passes k ≡ true
 each_passes passes marks only all k h = only k h (all k false h)
 
--- ---- where some names are no keys, those that are marked are kept
+-- ---- if some names are not keys, the marked ones are kept
 
 module _ (names : List (List ℕ)) (sorted : IsStrictlySortedBy name_cmp names) (ps : List Indexed) (within : All (IsWithin (length names)) ps) (marks : List Bool)
     (long : length marks ≡ length names) (used : All (UsesOnly (is_marked marks)) ps) (only : MarksOnly (is_own names ps within) marks) where

@@ -12,7 +12,7 @@ use Rattle.tcc_graph.specs.declared.step.Step.TheVariants as step
 use Rattle.tcc_graph.specs.declared.link.Link.{Link}
 use Rattle.tcc_graph.specs.declared.link.Link.TheVariants as link
 
--- the first of some items; and where one is, there are some
+-- a list that has items has a first one
 pub first_item : {X : Type 0} (xs : List X) → has_items xs ≡ true → (x : X) × Contains xs x
 first_item [] h = absurd (false≢true h)
 first_item (x ∷ xs) h = (x, (0, omega arith, refl))
@@ -97,12 +97,12 @@ module _ (h : History) where
       (or_right _ _ (and_from _ _ (and_from _ _ (and_from _ _ (lt-ltb 0 m some) (lt-ltb 0 n more)) (eq-eqb (owner h m) (owner h n) same))
       (lt-ltb (place h m) (place h n) lower)))
 
-  -- `init` stands before all others
+  -- `init` is before all others
   pub initial_pair : (a b : ℕ) → a ≡ 0 → a < count h → 0 < b → b < count h → IsSessionPair h a b
   initial_pair a b none below some within =
       and_from _ _ (and_from _ _ (lt-ltb a (count h) below) (lt-ltb b (count h) within)) (or_left _ _ (and_from _ _ (eq-eqb a 0 none) (lt-ltb 0 b some)))
 
-  -- what a pair says of its two transactions
+  -- what a pair says about its two transactions
   pub record PairParts (a : ℕ) (b : ℕ) : Type 0 where
     pub from : a < count h
     pub to : b < count h

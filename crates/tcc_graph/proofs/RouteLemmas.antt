@@ -1,4 +1,4 @@
--- Links, one after the other: what is left to ask of them.
+-- Links, one after another: what is left to check of them.
 use Rattle.std.proofs.Common.{◌≡◌, ◌<◌, ◌≤◌, ◌+◌, ℕ, List, ◌∷◌, length, get_or, drop, sym, ap, subst, ◌∙◌}
 use Rattle.std.proofs.lemmas.List.{drop_more, drop_all}
 use Rattle.tcc_graph.specs.Levels.{Judged}
@@ -6,7 +6,7 @@ use Rattle.tcc_graph.specs.Links.{link_from, link_to, IsLink}
 use Rattle.tcc_graph.specs.Routes.{LinksLead}
 use Rattle.tcc_graph.specs.declared.link.Link.{Link}
 
--- the links lead from the start exactly where those after the first i lead from here
+-- the links lead from the start exactly if those after the first i lead from here
 pub record IsRestOf (j : Judged) (start at end i : ℕ) (links : List Link) : Type 0 where
   pub forth : LinksLead j start end links → LinksLead j at end (drop i links)
   pub back : LinksLead j at end (drop i links) → LinksLead j start end links

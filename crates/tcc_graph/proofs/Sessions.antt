@@ -1,4 +1,4 @@
--- Session order: who stands between two transactions of a session, and who stands right before one.
+-- Session order: which transactions are between two of a session, and which is right before one.
 use Rattle.std.proofs.Common.{ℕ, ◌-◌, ◌<◌, ◌≤◌, ◌≡◌, ◌⊎◌, true, false, inl, inr, sym, ap, subst, arith}
 use Rattle.std.proofs.lemmas.Bool.{cases_lt, cases_eq, both_ways}
 use Rattle.tcc_reads.specs.History.{History, IsBySession, count, owner, place}
@@ -6,7 +6,7 @@ use Rattle.tcc_graph.specs.Relations.{IsSessionPair, session_pair}
 use Rattle.tcc_graph.proofs.Pairs.{PairParts, pair_parts, lower_first, initial_pair}
 
 module _ (h : History) (ordered : IsBySession h.entries) where
-  -- who stands before another, `init` aside, has the lower number
+  -- a transaction other than `init` that is before another has the lower number
   lower : (b c : ℕ) → 0 < b → IsSessionPair h b c → b < c
   lower b c some p = go (cases_lt b c)
     where
@@ -47,7 +47,7 @@ module _ (h : History) (ordered : IsBySession h.entries) where
         lower_first h m c (omega (arith, over)) (omega (arith, under, parts.to)) (omega (arith, under)) parts.to same_owner.1
         ((ordered m c under parts.to).1 same_owner.1)
 
-  -- the number before, where it stands before it, else `init`
+  -- the number right before, if that is before it in session order, else `init`
   pub last_before : (b c : ℕ) → 0 < c → session_pair h (c - 1) c ≡ true → IsSessionPair h b c → (b ≡ c - 1) ⊎ IsSessionPair h b (c - 1)
   last_before b c some there p = go (cases_eq b (c - 1)) (cases_lt 0 b)
     where

@@ -8,12 +8,12 @@ use Rattle.tcc_txn.specs.declared.op.Op.{Op}
 use Rattle.tcc_reads.specs.Sources.{puts_at, value_put, visible_write}
 use Rattle.tcc_graph.specs.Operations.{first_reading_from, last_write_from, reads_value}
 
--- a list from an index on begins with what is there
+-- a list from an index on begins with the operation there
 begins : {Y : Type 0} (F : List Op → Y) (ops : List Op) (i : ℕ) (op : Op) → slice_get ops i ≡ Some op → F (drop i ops) ≡ F (op ∷ drop (i + 1) ops)
 begins F ops i op at =
     at_drop_more F ops i op (slice_get_within ops i op at) ∙ ap (λ o. F (o ∷ drop (i + 1) ops)) (get_or_from_slice_get ops i op op at)
 
--- something is at an index below the length
+-- there is an operation at an index below the length
 pub none_past : (ops : List Op) (i : ℕ) → slice_get ops i ≡ None → i < length ops → ⊥
 none_past [] i none inside = absurd (omega (arith, inside))
 none_past (op ∷ ops) zero none inside = absurd (cc none)

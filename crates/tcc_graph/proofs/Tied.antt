@@ -1,4 +1,4 @@
--- Comparisons of steps and links: they are total orders, and steps that tie are the same, where they lead to one end.
+-- Comparisons of steps and links: they are total orders, and steps that tie are the same if they lead to one end.
 use Rattle.std.proofs.Common.{ℕ, ◌≡◌, reverse, refl, sym}
 use Rattle.std.specs.Ordering.{nat_cmp, ordering_then}
 use Rattle.std.specs.Cmp.{IsTotalOrder}

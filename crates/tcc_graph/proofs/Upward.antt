@@ -1,4 +1,4 @@
--- Routes over numbers from one on upward; every cycle is one such route from its lowest number, begun elsewhere.
+-- Routes over numbers from one on upward. Every cycle is such a route, begun at its lowest number.
 use Rattle.std.proofs.Common.{ℕ, ◌≡◌, ◌<◌, ◌≤◌, ◌⊎◌, inl, inr, List, [], ◌∷◌, ◌++◌, All, refl, sym, subst, arith}
 use Rattle.std.proofs.lemmas.Bool.{cases_lt}
 use Rattle.std.proofs.lemmas.List.Elements.{All-nil, All-cons}
@@ -28,7 +28,7 @@ ends_upward j m a b (l ∷ []) lead low from = All-cons (IsUpward m) l [] (from.
 ends_upward j m a b (l ∷ k ∷ links) lead low from =
     All-cons (IsUpward m) l (k ∷ links) (from.0, omega (arith, from.1.0, lead.2.0)) (ends_upward j m (link_to l) b (k ∷ links) lead.2 low from.1)
 
--- where a list of links has one that begins lowest
+-- one of the links begins at the lowest number
 record HasLowest (links : List Link) : Type 0 where
   front : List Link
   link : Link

@@ -25,7 +25,7 @@ reached_append h a m b v w = (v.0 ++ w.0, walk_append h a m b v.0 w.0 v.1 w.1.1)
 pub pair_walk : (h : History) (a b : ℕ) → IsCausalPair h a b → (walk : List Step) × IsWalk h a b walk × (length walk ≡ 1)
 pair_walk h a b p = let s = step_of_kind h a b p in (s.0 ∷ [], (omega arith, (s.1, s.3, s.2)), refl)
 
--- one pair more
+-- one more pair
 pub walk_on : (h : History) (a b c : ℕ) (walk : List Step) → IsWalk h a b walk → IsCausalPair h b c
     → (longer : List Step) × IsWalk h a c longer × (length longer ≡ length walk + 1)
 walk_on h a b c walk is p =

@@ -50,14 +50,14 @@ stale_read-writers = refl
 stale_read-readers : readers stale_read 0 x ≡ 2 ∷ []
 stale_read-readers = refl
 
--- no key, so nobody writes it, `init` neither
+-- y is not a key, so nobody writes it, not even `init`
 stale_read-writers-y : writers stale_read y ≡ []
 stale_read-writers-y = refl
 
 stale_read-keys : keys stale_read ≡ x ∷ []
 stale_read-keys = refl
 
--- `init` before the others, the lower place first, and none with itself
+-- `init` is before the others, then the lower place first, and none is before itself
 stale_read-session : (session_pair stale_read 0 2 ≡ true) × (session_pair stale_read 1 2 ≡ true) × (session_pair stale_read 2 1 ≡ false)
     × (session_pair stale_read 0 0 ≡ false) × (session_pair stale_read 1 1 ≡ false) × (session_pair stale_read 1 3 ≡ false)
 stale_read-session = (refl, refl, refl, refl, refl, refl)
@@ -133,7 +133,7 @@ long_chain-link = (
   ),
 )
 
--- its walk has three pairs, so it is no link at `Atomic`
+-- its walk has three pairs, so it is not a link at `Atomic`
 long_chain-atomic : IsLink (atomically long_chain) chain_link → ⊥
 long_chain-atomic is = absurd (omega (arith, is.1.1))
 
@@ -232,7 +232,7 @@ each_other-walk = (
 each_other-length : length round_walk ≡ 2
 each_other-length = refl
 
--- two walks that differ in a start number: the last steps decide, though the first ones stand the other way round
+-- two walks that differ in a start number: the last steps decide, though the first ones are the other way round
 walks_by_start : walk_cmp (step.Session 2 3 ∷ step.Session 3 9 ∷ []) (step.Session 1 4 ∷ step.Session 4 9 ∷ []) ≡ Less
 walks_by_start = refl
 
@@ -253,14 +253,14 @@ walks_by_key = refl
 walks_by_key-back : walk_cmp (step.Reads 1 2 y ∷ step.Session 2 3 ∷ []) (step.Reads 1 2 x ∷ step.Session 2 3 ∷ []) ≡ Greater
 walks_by_key-back = refl
 
--- of two derived links the key comes first, though the readers stand the other way round
+-- of two derived links the key comes first, though the readers are the other way round
 links_by_key : link_cmp (link.Derived 1 0 x 9 (step.Session 1 9 ∷ [])) (link.Derived 1 0 y 2 (step.Session 1 2 ∷ [])) ≡ Less
 links_by_key = refl
 
 links_by_key-back : link_cmp (link.Derived 1 0 y 2 (step.Session 1 2 ∷ [])) (link.Derived 1 0 x 9 (step.Session 1 9 ∷ [])) ≡ Greater
 links_by_key-back = refl
 
--- of two derived links of one key the reader comes first, though the walks stand the other way round
+-- of two derived links with one key the reader comes first, though the walks are the other way round
 links_by_reader : link_cmp (link.Derived 1 0 x 2 (step.Reads 1 2 y ∷ [])) (link.Derived 1 0 x 9 (step.Session 1 9 ∷ [])) ≡ Less
 links_by_reader = refl
 
@@ -268,6 +268,6 @@ links_by_reader = refl
 cycles_by_start : cycle_cmp (1, link.Derived 1 0 x 2 (step.Session 1 2 ∷ []) ∷ link.Reads 0 1 x ∷ []) (2, link.Session 2 3 ∷ link.Session 0 2 ∷ []) ≡ Less
 cycles_by_start = refl
 
--- of one start the last link decides, the first one being the other way round
+-- of cycles with one start the last link decides, though the first one is the other way round
 cycles_by_last : cycle_cmp (1, link.Reads 1 2 x ∷ link.Session 2 1 ∷ []) (1, link.Session 1 2 ∷ link.Reads 2 1 x ∷ []) ≡ Less
 cycles_by_last = refl

@@ -42,7 +42,7 @@ read_is_key h a c x (from, to, (k, within, e)) =
     list_any_at (λ e. has_name (keys_of e) x) h.entries c initial to
     (list_any-append (bytes_eq x) (entry_at h c).writes (map (λ read. read.0) (entry_at h c).reads) ∙ or_right _ _ read)
 
--- what is read stands at some index among the keys
+-- what is read is at some index among the keys
 pub key_place : (h : History) (a c : ℕ) (x : List ℕ) → IsReadsPair h a c x → (k : ℕ) × (k < length (keys h)) × (key_at h k ≡ x)
 key_place h a c x read =
     let w = has_name-contains (keys h) x (has_name-keys h x ∙ read_is_key h a c x read) in
@@ -58,7 +58,7 @@ numbers_below h =
 pub number_in : (h : History) (b : ℕ) → b < count h → Contains (numbers h) b
 number_in h b l = (b, omega (arith, length-range_with_len 0 (count h)), get_or-range_with_len 0 (count h) b b l ∙ zero-add b)
 
--- of a key or of no key
+-- for a key, and for a name that is not a key
 by_key : (P : List ℕ → Type 0) (k : Bool) (xs : List ℕ) → P xs → P [] → P (cond k xs [])
 by_key P true xs some none = some
 by_key P false xs some none = none
@@ -81,6 +81,6 @@ pub writer_in : (h : History) (x : List ℕ) (b : ℕ) → is_key h x ≡ true �
 writer_in h x b key (l, w) = subst (λ (bs : List ℕ). Contains bs b) (sym (cond-true (is_key h x) (filter (λ b. writes h b x) (numbers h)) [] key))
     (in_filter (λ b. writes h b x) (numbers h) b (number_in h b l) w)
 
--- who writes a key that somebody reads is in the list
+-- the list has each writer of a key that somebody reads
 pub writer_listed : (h : History) (x : List ℕ) (a c b : ℕ) → IsReadsPair h a c x → IsWriter h b x → Contains (writers h x) b
 writer_listed h x a c b reads writer = writer_in h x b (read_is_key h a c x reads) writer

@@ -1,4 +1,4 @@
--- What is answered of a history at a level.
+-- What the answer for a history at a level is.
 use Rattle.std.specs.Prelude.{ℕ, List}
 use Rattle.tcc_graph.specs.Levels.{Judged}
 use Rattle.tcc_graph.specs.Routes.{HasCycle}

@@ -11,7 +11,7 @@ pub record IsBehind (h : History) (t : ℕ) (session : ℕ) (b : ℕ) : Type 0 w
   pub owned : owner h b ≡ session
   pub reached : IsReached h b t
 
--- the greatest place of a transaction of the session from which t is reached, or 0 where there is none
+-- the greatest place of a transaction of the session from which t is reached, or 0 if there is none
 pub record IsLast (h : History) (t : ℕ) (session : ℕ) (last : ℕ) : Type 0 where
   pub attained : (last ≡ 0) ⊎ ((b : ℕ) × IsBehind h t session b × (place h b ≡ last))
   pub greatest : (b : ℕ) → IsBehind h t session b → place h b ≤ last

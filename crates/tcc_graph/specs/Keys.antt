@@ -12,12 +12,12 @@ use Rattle.tcc_graph.specs.KeyIndices.{name_of}
 abbrev pub has_name : List (List ℕ) → List ℕ → Bool
 has_name names x = list_any (bytes_eq x) names
 
--- the keys in operations of a committed transaction: those that it writes visibly, and those of its external reads
--- (any other read follows an own write of its key)
+-- the keys in operations of a committed transaction: those that it writes visibly, and those of its external reads (any other
+-- read follows an own write of its key)
 abbrev pub keys_of : Entry → List (List ℕ)
 keys_of e = e.writes ++ map (λ read. read.0) e.reads
 
--- the names, each put where it belongs in byte order unless it is there already
+-- the names, each inserted in byte order unless it is there already
 abbrev pub with_names : List (List ℕ) → List (List ℕ) → List (List ℕ)
 with_names sorted names = fold (insert_key (slice_cmp nat_cmp)) sorted names
 
@@ -43,7 +43,7 @@ IsWriter h b x = (b < count h) × (writes h b x ≡ true)
 abbrev pub numbers : History → List ℕ
 numbers h = range_with_len 0 (count h)
 
--- the transactions that write the key x, by number; none where x is no key of h
+-- the transactions that write the key x, by number; none if x is not a key of h
 abbrev pub writers : History → List ℕ → List ℕ
 writers h x = if is_key h x then filter (λ b. writes h b x) (numbers h) else []
 

@@ -8,6 +8,6 @@ use Rattle.tcc_graph.specs.Numbers.{label}
 abbrev pub labels_of : History → List (List ℕ)
 labels_of h = map (label h) (numbers h)
 
--- the name of a transaction; past the last one nothing
+-- the name of a transaction; past the last one the empty name
 abbrev pub label_at : List (List ℕ) → ℕ → List ℕ
 label_at labels n = slice_index_or labels n []

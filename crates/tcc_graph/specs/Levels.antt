@@ -6,7 +6,7 @@ use Rattle.tcc_graph.specs.declared.step.Step.{Step}
 use Rattle.tcc_graph.specs.declared.level.Level.{Level}
 use Rattle.tcc_graph.specs.declared.level.Level.TheVariants as level
 
--- what links, routes, cycles and commit orders are spoken of: pairs, walks and clocks are the history's alone
+-- what links, routes, cycles and commit orders depend on; pairs, walks and clocks depend on the history alone
 pub record Judged : Type 0 where
   pub history : History
   pub level : Level

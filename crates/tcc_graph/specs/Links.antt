@@ -10,12 +10,12 @@ use Rattle.tcc_graph.specs.declared.step.Step.TheVariants as step
 use Rattle.tcc_graph.specs.declared.link.Link.{Link}
 use Rattle.tcc_graph.specs.declared.link.Link.TheVariants as link
 
--- c reads the key x from a, and b, another transaction, writes x too: if b reaches c, then b has to stand before a
+-- c reads the key x from a, and b, another transaction, writes x too: if b reaches c, then b has to be before a
 abbrev pub MayContradict : History → ℕ → ℕ → List ℕ → ℕ → Type 0
 MayContradict h b a x c = (b ≢ a) × IsReadsPair h a c x × IsWriter h b x
 
--- the reason why b stands before a: a key x, a reader c of x from a, and a walk that the level allows, by which b, a
--- writer of x, reaches c
+-- the reason why b is before a: a key x, a reader c of x from a, and a walk that the level allows, by which b, a writer of x,
+-- reaches c
 abbrev pub IsReason : Judged → ℕ → ℕ → List ℕ → ℕ → List Step → Type 0
 IsReason j b a x c walk = MayContradict j.history b a x c × IsAllowedWalk j b c walk
 

@@ -2,7 +2,7 @@
 use Rattle.std.specs.Prelude.{ℕ, ◌==◌, ◌&&◌, nat_lt, List, [], ◌∷◌, ◌++◌, Option, None, Some, if◌then◌else◌, slice_index_or, decimal, codes}
 use Rattle.tcc_reads.specs.History.{History, count, owner, place}
 
--- the session's index and the place of a committed transaction; none for `init` and past the last number
+-- the index of the session and the place of a committed transaction; none for `init` and past the last number
 abbrev pub at : History → ℕ → Option (ℕ × ℕ)
 at h n = if nat_lt 0 n && nat_lt n (count h) then Some (owner h n, place h n) else None
 

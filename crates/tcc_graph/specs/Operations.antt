@@ -1,4 +1,4 @@
--- The recorded operations of a transaction, and what stands among them.
+-- The recorded operations of a transaction, and what is among them.
 use Rattle.std.specs.Prelude.{ℕ, ◌+◌, ◌-◌, Bool, false, ◌&&◌, ◌==◌, if◌then◌else◌, List, [], ◌∷◌, unwrap_or, slice_get, Option, None, Some}
 use Rattle.std.specs.Option.{option_map_or, option_or}
 use Rattle.std.specs.Str.{bytes_eq}
@@ -18,7 +18,7 @@ ops_in transactions place = option_map_or (λ t. t.ops) (slice_get transactions 
 abbrev pub ops_of : Sessions → History → ℕ → List Op
 ops_of s h n = option_map_or (λ p. ops_in (finished_at s p.0) p.1) (at h n) []
 
--- the index of the last write of a key, where the first operation has this index
+-- the index of the last write of a key, if the first operation has this index
 abbrev pub last_write_from : ℕ → List ℕ → List Op → Option ℕ
 last_write_from index x [] = None
 last_write_from index x (op ∷ later) = option_or (last_write_from (index + 1) x later) (if puts_at x op then Some index else None)
@@ -36,7 +36,7 @@ abbrev pub reads_value : List ℕ → ℕ → Op → Bool
 reads_value x v (Get key value) = bytes_eq key x && (value == v)
 reads_value x v (Put key value) = false
 
--- the index of the first operation that reads this value at a key, where the first of all has this index
+-- the index of the first operation that reads this value at a key, if the first of all has this index
 abbrev pub first_reading_from : ℕ → List ℕ → ℕ → List Op → Option ℕ
 first_reading_from index x v [] = None
 first_reading_from index x v (op ∷ later) = if reads_value x v op then Some index else first_reading_from (index + 1) x v later

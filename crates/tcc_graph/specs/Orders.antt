@@ -9,7 +9,7 @@ use Rattle.tcc_graph.specs.Levels.{Judged}
 use Rattle.tcc_graph.specs.Links.{IsReason}
 use Rattle.tcc_graph.specs.declared.step.Step.{Step}
 
--- a stands before b in the list
+-- a is before b in the list
 abbrev pub Before : List ℕ → ℕ → ℕ → Type 0
 Before order a b =
     (i : ℕ) × (j : ℕ) × (i < j) × (j < length order) × (slice_index order i ≡ a) × (slice_index order j ≡ b)
@@ -20,8 +20,8 @@ pub record IsNumbering (n : ℕ) (order : List ℕ) : Type 0 where
   pub each : (a : ℕ) → a < n → Contains order a
   pub once : (i : ℕ) (j : ℕ) → i < j → j < length order → slice_index order i ≢ slice_index order j
 
--- an order of all transactions that keeps both relations and the axiom of the level: where b writes the key x too and
--- reaches a reader of x from a by a walk that the level allows, b stands before a
+-- An order of all transactions that keeps both relations and the axiom of the level. If b writes the key x too and reaches a
+-- reader of x from a by a walk that the level allows, b is before a.
 pub record IsCommitOrder (j : Judged) (order : List ℕ) : Type 0 where
   pub numbering : IsNumbering (count j.history) order
   pub sessions : (a : ℕ) (b : ℕ) → IsSessionPair j.history a b → Before order a b

@@ -5,8 +5,8 @@ use Rattle.std.specs.Ordering.{nat_cmp, ordering_then}
 use Rattle.std.specs.declared.cmp.Ordering.{Ordering}
 use Rattle.tcc_reads.specs.History.{History, count, entry_at, owner, place}
 
--- (a, b) is a pair of session order: `init` before every other transaction, and in one session the lower place first,
--- near or far
+-- (a, b) is a pair of session order: `init` before every other transaction, and in one session the lower place first, adjacent
+-- or not
 abbrev pub session_pair : History → ℕ → ℕ → Bool
 session_pair h a b =
     (nat_lt a (count h) && nat_lt b (count h))
@@ -16,7 +16,7 @@ session_pair h a b =
 abbrev pub IsSessionPair : History → ℕ → ℕ → Type 0
 IsSessionPair h a b = session_pair h a b ≡ true
 
--- who stands right before c in session order: the transaction before it in its session, or else `init`
+-- the transaction right before c in session order: the one before it in its session, or else `init`
 abbrev pub previous : History → ℕ → ℕ
 previous h c = if session_pair h (c - 1) c then c - 1 else 0
 
@@ -28,11 +28,11 @@ reads_from h a b = map (λ read. read.0) (filter (λ read. read.1 == a) (entry_a
 abbrev pub IsReadsPair : History → ℕ → ℕ → List ℕ → Type 0
 IsReadsPair h a b x = (a < count h) × (b < count h) × Contains (reads_from h a b) x
 
--- the order of pairs: by the number, then by what stands beside it
+-- the order of pairs: by the number, then by the value beside it
 abbrev pub by_number : {X : Type 0} → (X → X → Ordering) → ℕ × X → ℕ × X → Ordering
 by_number cmp p q = ordering_then (nat_cmp p.0 q.0) (cmp p.1 q.1)
 
--- the numbers ascend, and beside one number what stands there ascends: so no pair is there twice
+-- the numbers ascend, and the values beside one number ascend: so no pair is there twice
 abbrev pub AreInOrder : {X : Type 0} → (X → X → Ordering) → List ℕ → List X → Type 0
 AreInOrder cmp numbers values = IsStrictlySortedBy (by_number cmp) (zip numbers values)
 

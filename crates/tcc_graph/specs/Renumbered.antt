@@ -6,7 +6,7 @@ use Rattle.tcc_graph.specs.declared.step.Step.TheVariants as step
 use Rattle.tcc_graph.specs.declared.link.Link.{Link}
 use Rattle.tcc_graph.specs.declared.link.Link.TheVariants as link
 
--- a step, and a link, each number of which is what a function gives for it
+-- a step, and a link, with each number mapped by a function
 abbrev pub step_by : (ℕ → ℕ) → Step → Step
 step_by f (step.Session a b) = step.Session (f a) (f b)
 step_by f (step.Reads a b x) = step.Reads (f a) (f b) x

@@ -9,7 +9,7 @@ abbrev pub LinksLead : Judged → ℕ → ℕ → List Link → Type 0
 LinksLead j a b [] = a ≡ b
 LinksLead j a b (l ∷ links) = (link_from l ≡ a) × IsLink j l × LinksLead j (link_to l) b links
 
--- a route from a to b has one link at least, also where a is b
+-- a route from a to b has at least one link, even if a is b
 abbrev pub IsRoute : Judged → ℕ → ℕ → List Link → Type 0
 IsRoute j a b links = (0 < length links) × LinksLead j a b links
 
@@ -33,7 +33,7 @@ pub record IsLeastCycle (j : Judged) (s : ℕ) (links : List Link) : Type 0 wher
 abbrev pub IsUpward : ℕ → Link → Type 0
 IsUpward s l = (s ≤ link_from l) × (s ≤ link_to l)
 
--- a route from s to v over numbers from s upward alone; walks inside its derived links may pass below
+-- a route from s to v over numbers from s upward alone; walks inside its derived links may pass below s
 abbrev pub IsUpwardRoute : Judged → ℕ → ℕ → List Link → Type 0
 IsUpwardRoute j s v links = IsRoute j s v links × All (IsUpward s) links
 

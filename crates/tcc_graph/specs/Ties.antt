@@ -19,7 +19,7 @@ abbrev pub step_kind : Step → ℕ
 step_kind (step.Session a b) = 0
 step_kind (step.Reads a b x) = 1
 
--- no name comes before the empty one, which stands for none
+-- no name comes before the empty one, which is the key of a step without one
 abbrev pub step_key : Step → List ℕ
 step_key (step.Session a b) = []
 step_key (step.Reads a b x) = x

@@ -27,7 +27,7 @@ abbrev pub Leads : History → ℕ → ℕ → List Step → Type 0
 Leads h a b [] = a ≡ b
 Leads h a b (s ∷ steps) = (step_from s ≡ a) × IsStep h s × Leads h (step_to s) b steps
 
--- a causal walk from a to b has one step at least, also where a is b; its length is the number of its steps
+-- a causal walk from a to b has at least one step, even if a is b; its length is the number of its steps
 abbrev pub IsWalk : History → ℕ → ℕ → List Step → Type 0
 IsWalk h a b walk = (0 < length walk) × Leads h a b walk
 

@@ -12,8 +12,8 @@ use std::ops::Deref;
 use tcc_reads::Resolved;
 use tcc_txn::{Name, NoMemory};
 
-/// The graph of a history that keeps the small limits. What a graph of any size can be asked it is asked as one of the large
-/// limits, which it dereferences to; it says itself how few its transactions and its sessions are, and lends what they write and
+/// The graph of a history that keeps the small limits. It dereferences to a graph within the large limits, which has the calls
+/// for a graph of any size. Its own calls say how few transactions and sessions there are, and return what these write and
 /// read by the names of the keys.
 #[derive(Drop)]
 pub struct Graph {
@@ -118,8 +118,8 @@ impl Graph {
         &self.names[b as usize].writes
     }
 
-    /// Who reads from `a`, by ascending number, and beside each a key that it reads there: of one reader in byte order,
-    /// each once.
+    /// Who reads from `a`, by ascending number, and beside each a key that it reads there: for one reader in byte order, each
+    /// once.
     pub fn readings(&self, a: u32) -> (&[u32], &[Name])
         requires { a < count self.now }
         ensures { AreReadings self.now a result.0.now result.1.now }

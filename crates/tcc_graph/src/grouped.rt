@@ -25,7 +25,7 @@ impl<T: Copy> Model for Grouped<T> {
     ghost invariant = { λ g. (length g.values.items ≡ length g.groups.items) × IsNonDecreasing g.groups.items };
 }
 
-/// Where the numbers of a group begin and end.
+/// Where the span of a group begins and ends.
 fn span(numbers: &[u32], group: u32) -> (usize, usize)
     requires { IsNonDecreasing numbers.now }
     ensures { IsSpan numbers.now group result.0 result.1 }
@@ -80,7 +80,7 @@ impl<T: Copy> Grouped<T> {
         &self.groups
     }
 
-    /// The values, in the order in which they came.
+    /// The values, in the order in which they were added.
     pub(crate) fn values(&self) -> &[T]
         ensures { result.now ≡ map (λ p. p.1) self.now }
     {
@@ -95,7 +95,7 @@ impl<T: Copy> Grouped<T> {
         start < end
     }
 
-    /// The values of a group, in the order in which they came.
+    /// The values of a group, in the order in which they were added.
     pub(crate) fn get(&self, group: u32) -> &[T]
         ensures { result.now ≡ of_group self.now group }
     {

@@ -48,7 +48,7 @@ impl Labels {
         &self.labels
     }
 
-    /// The name of a transaction; past the last one nothing.
+    /// The name of a transaction; past the last one the empty string.
     pub fn at(&self, number: u32) -> &str
         ensures { result.now ≡ label_at self.now number }
     {

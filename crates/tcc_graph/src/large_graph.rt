@@ -1,4 +1,4 @@
-//! The graph of a resolved history of the large limits.
+//! The graph of a resolved history within the large limits.
 ghost use Rattle.std.specs.Prelude.{◌≡◌, ◌≤◌, ◌<◌, ◌+◌, ◌++◌, ◌⊎◌, ◌↔◌, ℕ, List, length, map, All, IfOk, IsTrue, string_bytes, MatchOption, []};
 ghost use Rattle.tcc_graph.specs.{private.Grouped.of_group, Readings.AreReadingsByIndex, Readings.AreReadingsOfKey, Levels.judged, Numbers.at, Numbers.label, Links.IsLink};
 ghost use Rattle.tcc_graph.specs.Relations.{IsCausalPair, IsSessionPair, session_pair, previous, reads_from, causal_pair};
@@ -19,9 +19,9 @@ use std::marker::Model;
 use tcc_reads::{HistoryParts, Indexed, LargeResolved};
 use tcc_txn::{Name, NoMemory};
 
-/// The session order and the reads-from pairs of a history whose reads are resolved, up to the large limits. Number 0 is the initial
-/// transaction, `init`; the committed transactions follow by session name in byte order and by place. Each name is held once: keys
-/// are known by their indices in byte order.
+/// The session order and the reads-from pairs of a history whose reads are resolved, up to the large limits. Number 0 is the
+/// initial transaction, `init`. The committed transactions follow by session name in byte order and by place. Each name is
+/// held once: keys are known by their indices in byte order.
 #[derive(Drop)]
 pub struct LargeGraph {
     sessions: Vec<Name>,
@@ -90,11 +90,11 @@ impl LargeGraph {
         ensures numbered { IsBySession self.now.entries }
         ensures owners { (n : ℕ) → 0 < n → n < count self.now → owner self.now n < length self.now.sessions }
     {
-        // The proof reads here how the transactions are numbered.
+        // This read shows the proof how the transactions are numbered.
         let _ = &self.sessions;
     }
 
-    /// The session's index and the place of a committed transaction; none for `init` and past the last number.
+    /// The index of the session and the place of a committed transaction; none for `init` and past the last number.
     pub fn at(&self, n: u32) -> Option<(u32, u32)>
         ensures { result ≡ at self.now n }
     {
@@ -105,8 +105,7 @@ impl LargeGraph {
         Some((transaction.owner(), transaction.place()))
     }
 
-    /// Whether `a` stands before `b` in session order: `init` before all others, and in one session the lower place
-    /// first.
+    /// Whether `a` is before `b` in session order: `init` before all others, and in one session the lower place first.
     pub fn session(&self, a: u32, b: u32) -> bool
         requires from { a < count self.now }
         requires to { b < count self.now }
@@ -120,7 +119,7 @@ impl LargeGraph {
         from.owner() == to.owner() && from.place() < to.place()
     }
 
-    /// Who stands right before a transaction in session order: the one before it in its session, or else `init`.
+    /// The transaction right before another in session order: the one before it in its session, or else `init`.
     pub fn previous(&self, c: u32) -> u32
         requires some { 0 < c }
         requires below { c < count self.now }
@@ -130,13 +129,13 @@ impl LargeGraph {
         ensures pair { IsSessionPair self.now result c }
         ensures last { (b : ℕ) → IsSessionPair self.now b c → (b ≡ result) ⊎ IsSessionPair self.now b result }
     {
-        // The proof reads here how the transactions are numbered.
+        // This read shows the proof how the transactions are numbered.
         let _ = &self.indexed;
         if self.session(c - 1, c) { c - 1 } else { 0 }
     }
 
-    /// The first number with a session pair from `u`, and one past the last one, all between them having one too; both
-    /// `u + 1` where there is none.
+    /// The range of the numbers with a session pair from `u`: its first number, and one past its last. Both are `u + 1` if
+    /// there is none.
     pub fn later(&self, u: u32) -> (u32, u32)
         requires { u < count self.now }
         ensures first { result.0 ≡ u + 1 }
@@ -152,7 +151,7 @@ impl LargeGraph {
         (u + 1, end as u32)
     }
 
-    /// Whether `a` stands before `b` in session order, or `b` reads a key from `a`.
+    /// Whether `a` is before `b` in session order, or `b` reads a key from `a`.
     pub fn causal(&self, a: u32, b: u32) -> bool
         requires from { a < count self.now }
         requires to { b < count self.now }
@@ -161,7 +160,7 @@ impl LargeGraph {
         self.session(a, b) || self.key_indices[a as usize].has(b)
     }
 
-    /// The step from one transaction to another by a pair: by session order where they are of one session.
+    /// The step from one transaction to another by a pair: by session order if they are a session pair.
     pub fn step(&self, from: u32, to: u32) -> Step
         requires { IsCausalPair self.now from to }
         ensures from { step_from result ≡ from }
@@ -183,7 +182,7 @@ impl LargeGraph {
         &self.keys
     }
 
-    /// The row of a key; none where it is no key of the history.
+    /// The row of a key; none if it is not a key of the history.
     fn row(&self, key: &Name) -> Option<&KeyRow>
         ensures writers { MatchOption result ([] ≡ writers self.now key.now) (λ row. row.now.writers ≡ writers self.now key.now) }
         ensures readers { (a : ℕ) → a < count self.now → MatchOption result ([] ≡ readers self.now a key.now)
@@ -195,7 +194,7 @@ impl LargeGraph {
         }
     }
 
-    /// The transactions that write the key visibly, ascending, `init` first; none where it is no key of the history.
+    /// The transactions that write the key visibly, ascending, `init` first; none if it is not a key of the history.
     pub fn writers(&self, key: &Name) -> &[u32]
         ensures { result.now ≡ writers self.now key.now }
     {
@@ -216,8 +215,8 @@ impl LargeGraph {
         }
     }
 
-    /// Whether a transaction writes the key visibly: `init` writes each, also one that is no key of the history. The number may be
-    /// any: past the last there is no writer.
+    /// Whether a transaction writes the key visibly. `init` writes each key, even one that is not a key of the history. Any
+    /// number may be asked for: past the last there is no writer.
     pub fn is_writer(&self, b: u32, key: &Name) -> bool
         ensures { IsTrue result ↔ IsWriter self.now b key.now }
     {
@@ -239,8 +238,8 @@ impl LargeGraph {
         self.rows[key_index as usize].writers()
     }
 
-    /// Who reads the key at an index: the sources by ascending number, and beside each a reader of the key from it: of one
-    /// source by ascending number, each once.
+    /// Who reads the key at an index: the sources by ascending number, and beside each a reader of the key from it. For one
+    /// source the readers are by ascending number, each once.
     pub fn readings_of(&self, key_index: u32) -> (&[u32], &[u32])
         requires { key_index < length (keys self.now) }
         ensures { AreReadingsOfKey self.now key_index result.0.now result.1.now }
@@ -258,7 +257,7 @@ impl LargeGraph {
         &self.key_indices[a as usize]
     }
 
-    /// Who reads from `a`, by ascending number, and beside each the index of a key that it reads there: of one reader
+    /// Who reads from `a`, by ascending number, and beside each the index of a key that it reads there: for one reader
     /// ascending, each once.
     pub fn readings_at(&self, a: u32) -> (&[u32], &[u32])
         requires { a < count self.now }

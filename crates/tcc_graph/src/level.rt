@@ -1,6 +1,6 @@
 //! The levels at which a history is judged.
 
-/// How far the walk of a reason may go: what the axiom asks of a write that contradicts a read.
+/// How far the walk of a reason may go: what the axiom requires of a write that contradicts a read.
 #[derive(Clone, Copy)]
 pub enum Level {
     /// Any causal walk: the history has to be causally consistent.

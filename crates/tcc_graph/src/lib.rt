@@ -1,5 +1,5 @@
-//! The two relations of a resolved history, the steps and links that answers are made of, and the labels and recorded operations
-//! of its transactions.
+//! The two relations of a resolved history, the steps and links of which answers are made, and the labels and recorded
+//! operations of its transactions.
 #![tactic(auto)]
 
 mod graph;

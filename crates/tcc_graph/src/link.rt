@@ -10,7 +10,7 @@ use tcc_txn::{Name, NoMemory};
 /// A pair of transactions that every commit order keeps.
 #[derive(Drop)]
 pub enum Link {
-    /// `from` stands before `to` in session order, near or far.
+    /// `from` is before `to` in session order, adjacent or not.
     Session {
         from: u32,
         to: u32,
@@ -76,7 +76,7 @@ impl Link {
         }
     }
 
-    /// How many steps it unfolds to: of a derived one those of its walk, and the read that it contradicts.
+    /// How many steps it unfolds to. For a derived link these are the steps of its walk, and the read that it contradicts.
     pub fn cost(&self) -> usize
         ensures { result ≡ link_cost self.now }
     {

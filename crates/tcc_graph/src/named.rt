@@ -1,4 +1,4 @@
-//! What transactions write and read, by the names of the keys: what the calls of a small graph lend.
+//! What transactions write and read, by the names of the keys: what the calls of a small graph return.
 ghost use Rattle.std.specs.Prelude.{◌≡◌, ◌<◌, length, map, All, IfOk};
 ghost use Rattle.tcc_reads.specs.History.{count, entry_at};
 ghost use Rattle.tcc_graph.specs.{KeyIndices.name_of, private.Graphs.IsNamed, private.Graphs.AreNamed};

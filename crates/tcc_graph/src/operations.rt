@@ -1,4 +1,4 @@
-//! The recorded operations of a transaction, and what stands among them.
+//! The recorded operations of a transaction, and what is among them.
 ghost use Rattle.std.specs.Prelude.{◌≡◌, ◌<◌, [], IfSome};
 ghost use Rattle.std.specs.Option.{option_map_or};
 ghost use Rattle.tcc_txn.specs.declared.limits.TheConstants.{MAX_OPERATIONS};

@@ -1,5 +1,5 @@
-//! The keys of a history, among the names that its resolver knows: one pass marks those that its transactions write or read.
-//! Mostly all are marked, and then the indices stay as they are; else those that are marked are kept, and each index becomes a
+//! The keys of a history, among the names that its resolver knows. One pass marks those that its transactions write or read.
+//! Usually all are marked, and then the indices stay as they are. Otherwise the marked ones are kept, and each index becomes a
 //! rank: how many before it are marked. With n operations and k names it takes n + k steps.
 ghost use Rattle.std.specs.Prelude.{◌≡◌, ◌<◌, ◌≤◌, ℕ, Bool, true, length, map, All, IfOk};
 ghost use Rattle.std.specs.List.Sorted.{IsStrictlySortedBy};
@@ -52,7 +52,7 @@ fn mark_all(marks: &mut [bool], transactions: &[Indexed])
     }
 }
 
-/// The marks of the keys, of so many, that the transactions write or read.
+/// The marks of this many keys, by what the transactions write or read.
 fn marks_of(alloc: Global, count: usize, transactions: &[Indexed]) -> Result<Vec<bool>, NoMemory>
     requires { All (IsWithin count) transactions.now }
     ensures long { IfOk result (λ marks. length marks.items ≡ count) }
@@ -76,14 +76,14 @@ fn all_marked(marks: &[bool]) -> bool
     true
 }
 
-/// Some names of a list, and for each name of the list how many of them stand before it.
+/// Some names of a list, and for each name of the list how many of them are before it.
 #[derive(Drop)]
 struct Kept {
     names: Vec<Name>,
     ranks: Vec<u32>,
 }
 
-/// The names that are marked.
+/// The marked names.
 fn kept_names(alloc: Global, names: &[Name], marks: &[bool]) -> Result<Kept, NoMemory>
     requires long { length marks.now ≡ length names.now }
     requires few { length names.now ≤ u32.MAX }
@@ -163,8 +163,8 @@ pub(crate) struct OwnKeys {
     pub indexed: Vec<Indexed>,
 }
 
-/// The keys that the transactions write and read, in byte order, each once, and the transactions by their indices; given are the
-/// transactions by the indices of these names, which may be more.
+/// The keys that the transactions write and read, in byte order, each once, and the transactions by their indices. The given
+/// transactions are by the indices of these names, which may be more.
 pub(crate) fn with_own_keys(
     alloc: Global,
     names: Vec<Name>,

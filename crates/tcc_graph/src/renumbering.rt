@@ -12,7 +12,7 @@ pub trait Renumbering {
 
     ghost by: { Self → ℕ → ℕ };
 
-    /// The number there of the transaction of a number.
+    /// The number there of a transaction with this number.
     fn number(&self, number: u32) -> u32
         ensures { result ≡ by self.now number };
 }

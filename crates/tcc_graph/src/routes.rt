@@ -18,8 +18,8 @@ fn lead(graph: &LargeGraph, level: Level, start: u32, end: u32, links: &[Link]) 
     at == end
 }
 
-/// Whether the links are a cycle of the history at the level: each of them is a link with its reason, each begins where the
-/// one before it ends, and the last ends where the first begins.
+/// Whether the links are a cycle of the history at the level. Each of them is a link with its reason, and each begins where
+/// the one before it ends. The last ends where the first begins.
 pub fn is_cycle(graph: &LargeGraph, level: Level, links: &[Link]) -> bool
     ensures { IsTrue result ↔ AreCycle (judged graph.now level) links.now }
 {

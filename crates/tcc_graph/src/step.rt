@@ -4,7 +4,7 @@ use tcc_txn::{ListOf, Name};
 /// A pair of session order or of reads-from, as a step of a walk.
 #[derive(Clone, Copy)]
 pub enum Step {
-    /// `from` stands before `to` in session order, near or far.
+    /// `from` is before `to` in session order, adjacent or not.
     Session { from: u32, to: u32 },
     /// `to` reads `key` from `from`.
     Reads { from: u32, to: u32, key: Name },
@@ -47,5 +47,5 @@ impl Step {
     }
 }
 
-/// Steps in order. That each begins where the one before it ends is said by the contracts that speak of walks.
+/// Steps in order. The contracts on walks say that each begins where the one before it ends.
 pub type Walk = ListOf<Step>;

@@ -5,7 +5,7 @@ ghost use Rattle.tcc_graph.specs.Links.{cost};
 use crate::Link;
 use tcc_txn::NoMemory;
 
-/// How many steps the links have together. It is out of memory only where they are more than 64 bits count: no memory holds such
+/// How many steps the links have together. It is out of memory only if there are more than 64 bits count: no memory holds such
 /// links.
 pub fn steps_of(links: &[Link]) -> Result<usize, NoMemory>
     ensures steps { IfOk result (λ steps. steps ≡ cost links.now) }

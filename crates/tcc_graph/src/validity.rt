@@ -5,7 +5,7 @@ ghost use Rattle.tcc_graph.specs.{Relations.IsSessionPair, Relations.IsReadsPair
 use crate::{LargeGraph, Level, Link, Step};
 use tcc_txn::Name;
 
-/// Whether the key stands at one of the indices.
+/// Whether the key is at one of the indices.
 fn has_key(keys: &[Name], key_indices: &[u32], key: &Name) -> bool
     requires { All (λ k. k < length keys.now) key_indices.now }
     ensures { result ≡ has_name (map (name_of keys.now) key_indices.now) key.now }
@@ -18,7 +18,7 @@ fn has_key(keys: &[Name], key_indices: &[u32], key: &Name) -> bool
     false
 }
 
-/// Whether `from` stands before `to` in session order, whatever the numbers.
+/// Whether `from` is before `to` in session order, whatever the numbers.
 fn is_session(graph: &LargeGraph, from: u32, to: u32) -> bool
     ensures { IsTrue result ↔ IsSessionPair graph.now from to }
 {
@@ -34,7 +34,7 @@ fn is_read(graph: &LargeGraph, from: u32, to: u32, key: &Name) -> bool
         && has_key(graph.keys(), graph.reads_from_at(from, to), key)
 }
 
-/// Whether the transaction writes the key: `init` writes each, also one that nobody uses.
+/// Whether the transaction writes the key: `init` writes each, even one that nobody uses.
 pub(crate) fn is_writer(graph: &LargeGraph, writer: u32, key: &Name) -> bool
     ensures { IsTrue result ↔ IsWriter graph.now writer key.now }
 {

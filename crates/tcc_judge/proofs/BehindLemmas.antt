@@ -1,4 +1,4 @@
--- What stands behind a transaction and has to stand before it: by clocks and next writers.
+-- Transactions that come after another one and have to come before it, found by clocks and next writers.
 use Rattle.std.proofs.Common.{◌≡◌, ◌≢◌, ◌<◌, ◌≤◌, ◌+◌, ◌*◌, ◌-◌, ◌⊎◌, inl, inr, ℕ, Option, List, length, get_or, replicate, refl, sym, ap, subst, ◌∙◌, arith}
 use Rattle.std.specs.Prelude.{min}
 use Rattle.std.specs.Int.{div_ceil}
@@ -22,11 +22,11 @@ use Rattle.tcc_judge.specs.private.Behind.{IsWithin, IsBehindBy, IsBehindOf, IsB
 use Rattle.tcc_judge.proofs.LeastLemmas.{least_none, least_same, least_lower}
 use Rattle.tcc_judge.proofs.FoundLemmas.{first_more, found_same}
 
--- ---- the numbers of sessions that a clock has come to
+-- ---- the numbers of sessions that a clock has reached
 pub within_none : (next clock : List ℕ) → IsLeastOf (IsWithin next clock 0) NONE
 within_none next clock = least_none (IsWithin next clock 0) (λ n is. omega (arith, is.first))
 
--- a row of nobody's numbers has none that a clock has come to
+-- a row that was noted for no key has no number that a clock has reached
 pub within_nobodys : (next clock : List ℕ) → next ≡ replicate WIDE NONE → IsLeastOf (IsWithin next clock (length next)) NONE
 within_nobodys next clock nobody = record { attained = inl refl; lowest = λ n is. omega (arith, sym is.here ∙ none is.session is.first) }
   where
@@ -56,8 +56,8 @@ module _ (next clock : List ℕ) (i least : ℕ) where
           absurd (omega (arith, high, is.passed, is.here, ap (λ s. get_or next s 0) same, ap (λ s. get_or clock s 0) same))
       go n is (inr other) = record { session = is.session; first = omega (arith, is.first); here = is.here; passed = is.passed }
 
--- ---- what a clock tells
--- an earlier one of the session reaches what a later one does
+-- ---- what a clock says
+-- an earlier transaction of the session reaches what a later one reaches
 pub reaches_too : (h : History) → IsBySession h.entries → (b d c : ℕ) → 0 < b → b ≤ d → d < count h → owner h b ≡ owner h d → IsReached h d c → IsReached h b c
 reaches_too h numbered b d c some low below same reached = go (cases_order b d)
   where
@@ -165,7 +165,7 @@ module _ (h : History) (order : List ℕ) (numbering : IsNumbering (count h) ord
             };
           }
 
-  -- one place more
+  -- one more place
   pub found_more : (found : Option (ℕ × ℕ)) (b : ℕ) → count h < NONE → IsLeastOf (IsBehindOf h order from (place + 1) a) b → IsFoundFirst (IsBrokenFrom h order from (place + 1)) found
       → IsFoundFirst (IsBrokenFrom h order from place) (first_with found b a)
   found_more found b few least w =
@@ -193,12 +193,12 @@ found_all h order numbering from place none found w =
         record { broken = is; index = i.0; behind = omega (arith, none); inside = i.1; here = i.2 }
 
 -- ---- block by block
--- who breaks the axiom is of no session before these
+-- a transaction that breaks the axiom belongs to no session before these
 abbrev pub IsBrokenPast : History → List ℕ → ℕ → Type 0
 IsBrokenPast h order from = (at : ℕ × ℕ) → BreaksAxiom (causally h) order at → 0 < at.0 → from ≤ owner h at.0
 
 module _ (h : History) (numbered : IsBySession h.entries) (order : List ℕ) (onward : LeadsOnward h order) where
-  -- `init` stands before all others
+  -- `init` comes before all others
   pub never_init : (at : ℕ × ℕ) → BreaksAxiom (causally h) order at → 0 < at.0
   never_init at (x, c, walk, reason, apart) = go (cases_eq at.0 0)
     where

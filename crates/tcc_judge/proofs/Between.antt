@@ -1,4 +1,4 @@
--- The search at one cost after the other.
+-- The search, one cost after another.
 use Rattle.std.proofs.Common.{◌<◌, ◌≤◌, ◌+◌, ◌⊎◌, inl, inr, ℕ, None, Option, Some, refl, arith}
 use Rattle.std.specs.Global.{Vec}
 use Rattle.std.specs.Prelude.{MatchOption}
@@ -9,7 +9,7 @@ use Rattle.tcc_judge.specs.Picking.{IsFirstAround}
 use Rattle.tcc_judge.specs.declared.picking.FirstAround.{FirstAround}
 use Rattle.tcc_judge.specs.private.Picking.{IsCircleBelow, IsNoneYet}
 
--- what costs no less than one number costs no less than a lower one
+-- where no cycle costs less than one number, none costs less than a lower one
 pub none_lower : (j : Judged) (most n : ℕ) → n ≤ most → NoneBelow j most → NoneBelow j n
 none_lower j most n below none s links cycle = omega (arith, none s links cycle, below)
 
@@ -30,7 +30,7 @@ first_found j steps circle low nothing found =
     let first = found.1 steps refl nothing in
     record { some = omega (arith, low); none = nothing; inside = first.0; picked = first.1 }
 
--- a cycle costs so much, so that is no less than all cost
+-- some cycle costs at most `least`, and none costs less than 4, so `least` is at least 4
 pub least_low : (j : Judged) (least : ℕ) → NoneBelow j 4 → (NoneBelow j (least + 1) → ⊥) → 4 ≤ least
 least_low j least four some = go (cases_lt least 4)
   where
@@ -38,7 +38,7 @@ least_low j least four some = go (cases_lt least 4)
     go (inl less) = absurd (some (none_lower j 4 (least + 1) (omega (arith, less)) four))
     go (inr enough) = enough
 
--- what is found at a cost that some cycle has isn't nothing
+-- where some cycle costs at most `least`, something is found
 pub found_at : (j : Judged) (least most : ℕ) (found : Option FirstAround) → (NoneBelow j (least + 1) → ⊥)
     → MatchOption found (NoneBelow j (least + 1)) (IsFirstAround j) → MatchOption found (NoneBelow j most) (IsFirstAround j)
 found_at j least most None some none = absurd (some none)

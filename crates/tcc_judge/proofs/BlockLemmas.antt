@@ -11,7 +11,7 @@ wide_at h order place block at = record {
   next = record { long = at.next.long; wide = at.next.wide };
 }
 
--- with other clocks and next writers it is ready too
+-- with other clocks and next writers the block is ready too
 pub still_ready : (h : History) (order : List ℕ) (old new : Block) → IsReady h order old → new.owners ≡ old.owners → new.steps ≡ old.steps
     → length new.clocks ≡ count h → length new.next ≡ length (keys h) → IsReady h order new
 still_ready h order old new ready owners steps clocks next = record {

@@ -1,4 +1,5 @@
--- Where an order keeps all pairs, a cycle that costs less goes through `init`, or else a derived link leads back over each of its transactions.
+-- Where an order keeps all pairs, a cycle that costs less goes through `init`, or else a derived link leads back over each of its
+-- transactions.
 use Rattle.std.proofs.Common.{◌≡◌, ◌≢◌, ◌<◌, ◌≤◌, ◌+◌, ◌-◌, ◌⊎◌, inl, inr, ℕ, zero, suc, List, [], ◌∷◌, ◌++◌, length, length-append, get_or, refl, sym, ap, subst, ◌∙◌, arith}
 use Rattle.std.specs.List.{All, Contains}
 use Rattle.std.proofs.lemmas.Bool.{cases_eq, cases_lt}
@@ -30,7 +31,7 @@ use Rattle.tcc_judge.specs.private.Positions.{ArePositions}
 use Rattle.tcc_judge.proofs.PositionLemmas.{before_at}
 use Rattle.tcc_graph.proofs.WriterLemmas.{key_place}
 
--- ---- links by one that ends at `init`
+-- ---- links with one that ends at `init`
 record ComesToInit (links : List Link) : Type 0 where
   front : List Link
   last : Link
@@ -96,7 +97,7 @@ module _ (j : Judged) (none : NoneIntoInit j.history) (most : ℕ) (key_indices 
               at (inl more) = absurd (into (some_into (cost others - 2) others circle (omega arith) (omega (arith, few, same, more))))
               at (inr low) = absurd (never_two others circle low)
 
--- and each of them is a cycle that costs less
+-- and each of these is a cycle that costs less
 pub below_among : (j : Judged) (members : List ℕ) (most : ℕ) → NoneBelow j most → HasCheaperAmong j members most → ⊥
 below_among j members most none (v, links, cycle, among, few) = omega (arith, none v links cycle, few)
 
@@ -175,13 +176,13 @@ module _ (h : History) (level : Level) (order positions : List ℕ) (numbering :
       let mine : IsReason (judged h level) b 0 (key_at h key.0) c walk = subst (λ (y : List ℕ). IsReason (judged h level) b 0 y c walk) (sym key.2) reason in
       (key.0, (key.1, (b, c, walk, (mine.0, (mine.1.0, tt)))), key.2)
 
-  -- with lists of who is spanned and near, and of the keys
+  -- with lists of the transactions that are spanned and near, and of the keys
   module _ (most : ℕ) (members key_indices : List ℕ) (all : (v : ℕ) → IsMember (judged h level) order positions most v → Contains members v)
       (of_keys : (k : ℕ) → IsStaleKey h k → Contains key_indices k) (there : 0 < count h) where
     pub named : (b : ℕ) (x : List ℕ) (c : ℕ) (walk : List Step) → IsReason (judged h level) b 0 x c walk → (k : ℕ) × Contains key_indices k × (key_at h k ≡ x)
     named b x c walk reason = let key = is_stale b x c walk reason in (key.0, of_keys key.0 key.1, key.2)
 
-    -- where none comes to `init`, each is among them
+    -- where no cycle comes to `init`, each transaction is among them
     pub all_among : (n : ℕ) → n ≤ most → (s : ℕ) (links : List Link) → IsCycle (judged h level) s links → cost links < n
         → (HasCheaperIntoInit (judged h level) key_indices n → ⊥) → All (IsAmong members) links
     all_among n below s links cycle few into i d l = among (get_or links i d) (i, l, get_or_default links i (get_or links i d) d l)

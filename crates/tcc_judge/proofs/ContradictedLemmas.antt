@@ -1,4 +1,4 @@
--- What an order contradicts, as the readings, the places of the order and the blocks of sessions come.
+-- What an order contradicts, reading by reading, place by place and block by block.
 use Rattle.std.proofs.Common.{◌≡◌, ◌≢◌, ◌<◌, ◌≤◌, ◌+◌, ◌-◌, ◌⊎◌, ◌↔◌, inl, inr, ℕ, Bool, true, false, not, ◌==◌, List, length, get_or, set, replicate, refl, sym, ap, subst, ◌∙◌, arith}
 use Rattle.std.specs.Prelude.{max, nat_le}
 use Rattle.std.specs.List.{Contains}
@@ -59,7 +59,7 @@ greatest_both One Other one other v w = record { attained = go (cases_lt one oth
     high n (inr is) = omega (arith, w.highest n is)
 
 -- ---- one reading
--- what a test for another number tells
+-- what a test for another number says
 pub told_apart : (a b : ℕ) → not (a == b) ≡ true → a ≢ b
 told_apart a b is same = let e : (a == b) ≡ true = eq-eqb a b same in false≢true (rw e at is)
 
@@ -90,7 +90,7 @@ module _ (h : History) (order : List ℕ) (place : ℕ) (block : Block) (at : Is
 -- ---- the last of ascending numbers up to one
 module _ (numbers : List ℕ) (high i : ℕ) (rising : IsNonDecreasing numbers) (point : IsPartitionPoint (λ n. nat_le n high ≡ true) (λ n. nat_le n high ≡ false) numbers i)
     (bound : i ≤ length numbers) where
-  -- who is up to it stands before the point
+  -- a number up to `high` is before the point
   before_point : (n k : ℕ) → k < length numbers → get_or numbers k 0 ≡ n → n ≤ high → k < i
   before_point n k inside at low = go (cases_lt k i)
     where
@@ -120,7 +120,7 @@ module _ (numbers : List ℕ) (high i : ℕ) (rising : IsNonDecreasing numbers) 
           let less = before_point n k inside at low in
           omega (arith, at, rising k (i - 1) 0 (omega arith) (omega arith))
 
--- ---- the last of a session of the block that stands behind and has to stand before
+-- ---- the last of a session of the block that comes after and has to come before
 module _ (h : History) (order positions : List ℕ) (place : ℕ) (block : Block) (at : IsAt h order place block) (are : ArePositions (count h) order positions)
     (key_index : ℕ) (key : key_index < length (keys h)) (a c : ℕ) (reader : c < count h) (pair : IsReadsPair h a c (key_at h key_index)) where
   abbrev from : ℕ
@@ -162,7 +162,7 @@ module _ (h : History) (order positions : List ℕ) (place : ℕ) (block : Block
   stands_at : (i b : ℕ) → i < length order → get_or order i 0 ≡ b → b < count h → get_or positions b 0 ≡ i
   stands_at i b l e below = one_index numbering (get_or positions b 0) i (are.within b below) l (are.here b below ∙ sym e)
 
-  -- in a session who comes later stands later
+  -- in a session a later transaction comes later in the order
   session_up : (b d : ℕ) → 0 < b → b ≤ d → d < count h → owner h b ≡ owner h d → get_or positions b 0 ≤ get_or positions d 0
   session_up b d some up below same = go (cases_order b d)
     where
@@ -328,11 +328,11 @@ module _ (h : History) (order : List ℕ) (from : ℕ) (readers key_indices : Li
     there_too k (inl is) = inl is
     there_too k (inr (j, l, e, behind)) = inr (j, omega arith, e, behind)
 
-    -- it is of the key and contradicted
+    -- this reading is of the key and contradicted
     abbrev IsLast : ℕ → Type 0
     IsLast k = (get_or key_indices i 0 ≡ k) × IsBehindSome h order from 1 (key_at h k) (get_or readers i 0)
 
-    -- where the last one isn't, one of those before it is
+    -- where the last one isn't, one before it is
     without_last : (k : ℕ) → (IsLast k → ⊥) → (get_or old k false ≡ true) ⊎ IsStaleIn h order from readers key_indices (i + 1) k
         → (get_or old k false ≡ true) ⊎ IsStaleIn h order from readers key_indices i k
     without_last k none (inl is) = inl is
@@ -391,7 +391,7 @@ module _ (h : History) (order : List ℕ) (from : ℕ) (readers key_indices : Li
           by : (j : ℕ) × (j < length readers) × (get_or readers j 0 ≡ c) × (get_or key_indices j 0 ≡ k) → IsStaleIn h order from readers key_indices i k
           by (j, low, e, f) = (j, omega arith, f, subst (λ (d : ℕ). IsBehindSome h order from 1 (key_at h k) d) (sym e) behind)
 
--- ---- who contradicts
+-- ---- the transactions that contradict
 module _ (h : History) (order : List ℕ) (numbering : IsNumbering (count h) order) (from place a : ℕ) (inside : place < length order) (here : get_or order place 0 ≡ a) where
   pub apart_of : (x : List ℕ) (c b : ℕ) → IsBehindBy h order from (place + 1) x c b → b ≢ a
   apart_of x c b is same = omega (arith, one_index numbering is.next.index place is.next.inside inside (is.next.here ∙ (same ∙ sym here)), is.next.behind)
@@ -449,8 +449,8 @@ module _ (h : History) (order : List ℕ) (numbering : IsNumbering (count h) ord
         behind = (is.contradicted.by, behind_by_it is.key is.reader is.contradicted, is.here);
       }) w
 
--- ---- the sessions of one block more
--- who contradicts a reading is of each stretch of sessions that its own is in
+-- ---- the sessions of one more block
+-- a transaction that contradicts a reading is of each stretch of sessions that includes its own
 abbrev of_sessions : (h : History) (order : List ℕ) (a : ℕ) (x : List ℕ) (c from end low high : ℕ) → (w : IsContradictedBy h order from end a x c)
     → low ≤ owner h w.by → owner h w.by < high → IsContradictedBy h order low high a x c
 of_sessions h order a x c from end low high w above below = record {
@@ -503,7 +503,7 @@ read_more h order positions middle end a one last more v w =
       here = is.here;
     }
 
--- the places from one on have the lasts of the block too, and those before it not yet
+-- the places from one on have the lasts of the block too, and earlier places don't have them yet
 pub record AreNotedFrom (h : History) (order : List ℕ) (positions : List ℕ) (from : ℕ) (place : ℕ) (lasts : List ℕ) : Type 0 where
   pub long : length lasts ≡ length order
   pub first : get_or lasts 0 0 ≡ 0
@@ -580,7 +580,7 @@ module _ (h : History) (order positions : List ℕ) (from : ℕ) where
           go (inl earlier) = inl ((before k l).1 (c, earlier))
           go (inr later) = inr (c, later.reason.0.1, (later.by, behind_by_it h order numbering from 0 0 some init (key_at h k) c later))
 
--- ---- no block yet, and all
+-- ---- no block yet, and all blocks
 pub nothing_contradicted : (h : History) (order positions : List ℕ) (n keys_count : ℕ) → n ≡ length order → keys_count ≡ length (keys h)
     → AreContradictedTo h order positions 0 (replicate n 0) (replicate keys_count false)
 nothing_contradicted h order positions n keys_count long keys_long = record {

@@ -35,7 +35,7 @@ module _ (h : History) (most : ℕ) (low : most ≤ 4) where
   pub first_return : (b a : ℕ) → 3 < min most 4 → IsFirstPlace (IsReturn h) b a → IsFirstAt (BreaksReturn h most) (b, a)
   first_return b a four w = first_place (IsReturn h) (BreaksReturn h most) b a (λ is. (omega (arith, four), is)) (λ at is. is.1) w
 
-  -- where no cycle costs less there is none of these
+  -- where no cycle costs less there is no such round
   pub none_round : NoneBelow (judged h Causal) (min most 4) → (at : ℕ × ℕ) → BreaksRound h most at → ⊥
   none_round none = no_round (λ c d round. below_none (judged h Causal) (min most 4) (inl (c, d, round)) none)
 

@@ -22,7 +22,7 @@ use Rattle.tcc_judge.specs.private.Onward.{HasAllBelow}
 use Rattle.tcc_judge.proofs.Cheaper.{never_comes}
 
 module _ (j : Judged) (none : NoneBelow j 4) (there : 0 < count j.history) where
-  -- who reads for `init` makes a cycle of two links
+  -- if `init` read from a transaction, there would be a cycle of two links
   pub never_read : NoneIntoInit j.history
   never_read a (inl session) = omega (arith, (pair_parts j.history a 0 session).some)
   never_read a (inr (x, read)) = go (cases_eq a 0)
@@ -40,7 +40,7 @@ module _ (j : Judged) (none : NoneBelow j 4) (there : 0 < count j.history) where
             one_cost one,
           )
 
-  -- whoever is not `init` is one of the others
+  -- a number of a range is in the list of its numbers
   in_range : (from n v : ℕ) → from ≤ v → v < from + n → Contains (range_with_len from n) v
   in_range from n v low high =
       let less : v - from < n = omega arith in (

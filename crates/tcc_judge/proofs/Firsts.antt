@@ -62,7 +62,7 @@ module _ (h : History) (numbered : IsBySession h.entries) where
         ap (λ (e : Entry). e.owner) (get_or-drop 1 h.entries j initial),
       )
 
-  -- who stands before the first of a session is of a session before it, and the other way round
+  -- a transaction before the first of a session is of an earlier session, and the other way round
   pub front : (n session : ℕ) → 0 < n → n < count h → (n < first_of h session) ↔ (owner h n < session)
   front n session some below =
       ((λ l. omega (arith, w.0 (omega arith), here)), λ l. let m = w.1 (omega (arith, l, here)) in omega arith)
@@ -84,7 +84,7 @@ module _ (h : History) (numbered : IsBySession h.entries) where
         length-drop 1 h.entries,
       )
 
-  -- what tells the first of a session
+  -- what determines the first of a session
   pub first_is : (n session : ℕ) → 0 < n → n ≤ count h → ((m : ℕ) → 0 < m → m < n → owner h m < session)
       → ((m : ℕ) → n ≤ m → m < count h → session ≤ owner h m) → n ≡ first_of h session
   first_is n session some upto low high = go (cases_order n (first_of h session))
@@ -106,7 +106,7 @@ module _ (h : History) (numbered : IsBySession h.entries) where
   first_none some =
       first_is 1 0 (omega arith) (omega arith) (λ m above less. absurd (omega arith)) (λ m above below. omega arith)
 
-  -- the first of the next session: where a session has none, the same; else where it ends
+  -- the first of the next session: the same where a session has no transactions; else where it ends
   pub first_empty : (n session : ℕ) → 0 < n → n ≤ count h → n ≡ first_of h session → (n < count h → owner h n ≢ session) → n ≡ first_of h (session + 1)
   first_empty n session some upto is apart =
       first_is n (session + 1) some upto (λ m above less. omega (arith, (front m session above (omega arith)).0 (omega arith))) high

@@ -1,4 +1,4 @@
--- What runs tell of an order that keeps sessions is that order.
+-- For an order that keeps sessions, its runs encode that order.
 use Rattle.std.proofs.Common.{◌≡◌, ◌≢◌, ◌<◌, ◌≤◌, ◌+◌, ◌==◌, ◌&&◌, ◌⊎◌, inl, inr, ℕ, suc, true, false, cond, nat_lt, List, [], ◌∷◌, ◌++◌, length, length-append, get_or, append_assoc, refl, sym, ap, subst, ◌∙◌, arith}
 use Rattle.std.specs.List.{AllByRecursion, Contains, range_with_len}
 use Rattle.std.proofs.lemmas.Bool.{cases_Bool, cases_eq, cases_lt, cases_order, eq-eqb, ne_eqb, and_from, lt-ltb}
@@ -24,7 +24,7 @@ use Rattle.tcc_rules.specs.Asked.{AllHold}
 abbrev one_of : ℕ → Run
 one_of session = record { session = session; count = 1 }
 
--- ---- what a run tells
+-- ---- what a run encodes
 told_same : (f g : ℕ → ℕ) (runs : List Run) → ((s : ℕ) → f s ≡ g s) → told_from f runs ≡ told_from g runs
 told_same f g [] same = refl
 told_same f g (r ∷ runs) same =
@@ -94,7 +94,7 @@ module _ (h : History) where
   Follow next [] = Unit {0}
   Follow next (n ∷ order) = ((0 < n) × (n < count h) × (n ≡ next (owner h n))) × Follow (next_behind next (one_of (owner h n))) order
 
-  -- where each session goes on behind them
+  -- where each session goes on after these transactions
   abbrev behind : (ℕ → ℕ) → List ℕ → ℕ → ℕ
   behind next [] = next
   behind next (n ∷ order) = behind (next_behind next (one_of (owner h n))) order
@@ -126,7 +126,7 @@ module _ (h : History) where
 -- ---- a commit order is one
 module _ (h : History) (numbered : IsBySession h.entries) (some : 0 < count h) (order : List ℕ) (numbering : IsNumbering (count h) order)
     (sessions : (a b : ℕ) → IsSessionPair h a b → Before order a b) where
-  -- the next of the order is the next of its session
+  -- the next transaction of the order is the next of its session
   is_next : (next : ℕ → ℕ) (done : List ℕ) (n : ℕ) (rest : List ℕ) → done ++ n ∷ rest ≡ order → IsLaid h numbered next done
       → (0 < n) × (n < count h) × (n ≡ next (owner h n))
   is_next next done n rest split laid = (above (cases_eq n 0), below, here (cases_order n (next (owner h n))))
@@ -140,7 +140,7 @@ module _ (h : History) (numbered : IsBySession h.entries) (some : 0 < count h) (
       below : n < count h
       below = subst (λ (m : ℕ). m < count h) at (numbering.below (length done) 0 (omega (arith, long)))
 
-      -- who stands before it is another one
+      -- a transaction before it is another one
       apart : (m : ℕ) → Contains done m → m ≢ n
       apart m (k, l, e) same =
           numbering.once k (length done) l (omega (arith, long))
@@ -150,7 +150,7 @@ module _ (h : History) (numbered : IsBySession h.entries) (some : 0 < count h) (
       above (inl none) = absurd (apart 0 laid.init (sym none))
       above (inr other) = omega arith
 
-      -- an earlier one of the session stands before it, and so it was passed
+      -- an earlier one of the session comes before it, so it was passed
       earlier : (m : ℕ) → m ≡ next (owner h n) → m < n → ⊥
       earlier m is less = go (sessions m n pair)
         where
@@ -260,7 +260,7 @@ module _ (h : History) (numbered : IsBySession h.entries) (some : 0 < count h) (
           w : Followed (first_of h) rest
           w = followed (first_of h) (0 ∷ []) rest is (laid_none h numbered some) (firsts_rise h numbered some)
 
-          -- each session has come to its end, since all transactions are there
+          -- each session has reached its end, since all transactions are there
           ends : (s : ℕ) → (behind h (first_of h) rest s < first_of h (s + 1)) ⊎ (first_of h (s + 1) ≤ behind h (first_of h) rest s)
               → behind h (first_of h) rest s ≡ first_of h (s + 1)
           ends s (inr high) = omega (arith, high, w.within s)
@@ -286,7 +286,7 @@ module _ (h : History) (numbered : IsBySession h.entries) (some : 0 < count h) (
                   placed : (i : ℕ) × (i < length order) × (get_or order i 0 ≡ m) → ⊥
                   placed (i, l, e) = past (subst (IsPlaced h numbered (behind h (first_of h) rest)) e (w.laid.placed i l))
 
--- a commit order keeps the rules, as it is told by runs
+-- a commit order keeps the rules, encoded by runs
 pub own_order : (h : History) → IsBySession h.entries → 0 < count h → ((n : ℕ) → 0 < n → n < count h → owner h n < length h.sessions) → (level : Level)
     → (order : List ℕ) → IsCommitOrder (judged h level) order → AllHold (order_rules h (order_claim_of level h order))
 own_order h numbered some owned level order commit =

@@ -18,7 +18,7 @@ is_it_earlier p q (inl less) = or_left (nat_lt p.0 q.0) ((p.0 == q.0) && nat_lt 
 is_it_earlier p q (inr (same, less)) =
     or_right (nat_lt p.0 q.0) ((p.0 == q.0) && nat_lt p.1 q.1) (and_from (p.0 == q.0) (nat_lt p.1 q.1) (eq-eqb p.0 q.0 same) (lt-ltb p.1 q.1 less))
 
--- what is earlier than a pair is earlier than one that isn't
+-- what is earlier than a pair is earlier than one that isn't earlier than that pair
 earlier_still : (p q r : ℕ × ℕ) → IsEarlier p q → is_earlier r q ≡ false → IsEarlier p r
 earlier_still p q r less apart = go less (cases_order p.0 r.0)
   where
@@ -38,7 +38,7 @@ earlier_still p q r less apart = go less (cases_order p.0 r.0)
 
 module _ (Old New : ℕ × ℕ → Type 0) (Is : ℕ → Type 0) (a b : ℕ) (there : (at : ℕ × ℕ) → Old at → New at) (new : (n : ℕ) → Is n → New (n, a))
     (back : (at : ℕ × ℕ) → New at → Old at ⊎ ((at.1 ≡ a) × Is at.0)) (low : (n : ℕ) → Is n → n < NONE) (least : IsLeastOf Is b) where
-  -- nobody else
+  -- no other transaction
   same_found : b ≡ NONE → (found : Option (ℕ × ℕ)) → IsFoundFirst Old found → IsFoundFirst New found
   same_found none None w = λ at is. go (back at is)
     where
@@ -96,7 +96,7 @@ module _ (Old New : ℕ × ℕ → Type 0) (Is : ℕ → Type 0) (a b : ℕ) (th
       go (inl none) = rw (eq-eqb b NONE none) (same_found none found w)
       go (inr some) = rw (ne_eqb b NONE some) (new_found some found w)
 
--- others are meant, but the same pairs
+-- the same for pairs that are described in another way
 pub found_same : (One Other : ℕ × ℕ → Type 0) → ((at : ℕ × ℕ) → One at → Other at) → ((at : ℕ × ℕ) → Other at → One at) → (found : Option (ℕ × ℕ))
     → IsFoundFirst One found → IsFoundFirst Other found
 found_same One Other there back None w = λ at is. w at (back at is)

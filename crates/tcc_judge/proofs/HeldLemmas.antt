@@ -1,4 +1,4 @@
--- Rows that are each held for one key, seen as one list of them.
+-- Rows that are each held for one key, seen as one list of rows.
 use Rattle.std.proofs.Common.{◌≡◌, ◌≢◌, ◌<◌, ◌≤◌, ◌⊎◌, inl, inr, ℕ, zero, suc, List, [], ◌∷◌, ◌++◌, map, length, length-append, get_or, set, replicate, slice_index, take, refl, sym, ap, ◌∙◌, arith}
 use Rattle.std.specs.Prelude.{min}
 use Rattle.std.proofs.lemmas.Bool.{cases_eq}
@@ -37,7 +37,7 @@ pub first_kept : (rows : List (List ℕ)) → 0 < length rows → row_of (take 1
 first_kept [] some = absurd (omega arith)
 first_kept (row ∷ rows) some = refl
 
--- a row that is none of theirs
+-- a row that belongs to none of these keys
 pub other_rows : (rows : List (List ℕ)) (row : List ℕ) (held : ℕ) (which : List ℕ) → ((j : ℕ) → j < length which → get_or which j 0 ≢ held)
     → map (row_of (set rows held row)) which ≡ map (row_of rows) which
 other_rows rows row held [] apart = refl

@@ -1,4 +1,4 @@
--- What runs tell has each transaction once, and every session pair in order.
+-- The order that runs encode has each transaction once, and every session pair in order.
 use Rattle.std.proofs.Common.{◌≡◌, ◌≢◌, ◌<◌, ◌≤◌, ◌+◌, ◌==◌, ◌⊎◌, inl, inr, ℕ, zero, suc, cond, List, [], ◌∷◌, ◌++◌, length, length-append, get_or, append_assoc, refl, sym, ap, subst, ◌∙◌, arith}
 use Rattle.std.specs.List.{All, Contains, range_with_len}
 use Rattle.std.proofs.lemmas.Bool.{cases_eq, cases_lt, cases_order, eq-eqb, ne_eqb}
@@ -14,15 +14,15 @@ use Rattle.tcc_judge.specs.Runs.{first_of, next_behind, told_from, told_of, orde
 use Rattle.tcc_judge.proofs.Firsts.{front, first_within, firsts_rise}
 
 module _ (h : History) (numbered : IsBySession h.entries) where
-  -- `init`, or a transaction that its session has come to
+  -- `init`, or a transaction that its session has passed
   abbrev pub IsPlaced : (ℕ → ℕ) → ℕ → Type 0
   IsPlaced next n = (n ≡ 0) ⊎ ((0 < n) × (n < count h) × (n < next (owner h n)))
 
-  -- the later one is not the earlier one, and does not stand before it in its session
+  -- the later one is not the earlier one, and does not come before it in its session
   abbrev pub AreApart : ℕ → ℕ → Type 0
   AreApart earlier later = (earlier ≢ later) × (IsSessionPair h later earlier → ⊥)
 
-  -- an order so far, where each session has come to its next transaction
+  -- an order so far, with the next transaction of each session
   pub record IsLaid (next : ℕ → ℕ) (order : List ℕ) : Type 0 where
     pub low : (session : ℕ) → first_of h session ≤ next session
     pub init : Contains order 0
@@ -44,7 +44,7 @@ module _ (h : History) (numbered : IsBySession h.entries) where
       placed zero l = inl refl
       placed (suc i) l = absurd (omega arith)
 
-  -- told by another count of how far each session has come, where the two are alike
+  -- the same with another function that says where each session goes on, if the two agree
   pub laid_same : (next other : ℕ → ℕ) (order : List ℕ) → ((s : ℕ) → next s ≡ other s) → IsLaid next order → IsLaid other order
   laid_same next other order same w = record {
     low = λ s. omega (arith, w.low s, same s);
@@ -58,7 +58,7 @@ module _ (h : History) (numbered : IsBySession h.entries) where
       go n (inl none) = inl none
       go n (inr (above, below, less)) = inr (above, below, omega (arith, less, same (owner h n)))
 
-  -- one transaction more
+  -- one more transaction
   module _ (next other : ℕ → ℕ) (order : List ℕ) (session n : ℕ) (here : n ≡ next session) (inside : n < first_of h (session + 1)) (some : 0 < count h)
       (mine : other session ≡ n + 1) (others : (s : ℕ) → s ≢ session → other s ≡ next s) (w : IsLaid next order) where
     above : 0 < n
@@ -94,7 +94,7 @@ module _ (h : History) (numbered : IsBySession h.entries) where
     still m (inl none) = inl none
     still m (inr (a, b, less)) = inr (a, b, omega (arith, less, grown (owner h m)))
 
-    -- who is there already is no other of this session behind it
+    -- a transaction that is there already is another one, and does not come after this one in its session
     from_new : (m : ℕ) → IsPlaced next m → AreApart m n
     from_new m (inl none) = ((λ same. omega (arith, above, same, none)), λ pair. omega (arith, (pair_parts h n m pair).some, none))
     from_new m (inr (a, b, less)) = (other_one, λ pair. behind pair)
@@ -137,7 +137,7 @@ module _ (h : History) (numbered : IsBySession h.entries) where
             let early : i < length order = omega arith in
             rw (old_at i early, last, new_at) (from_new (get_or order i 0) (w.placed i early))
 
-  -- a run more
+  -- one more run
   abbrev pub moved : (ℕ → ℕ) → ℕ → ℕ → ℕ → ℕ
   moved next session k s = next s + cond (s == session) k 0
 
@@ -181,7 +181,7 @@ module _ (h : History) (numbered : IsBySession h.entries) where
       (laid_same (λ s. next_behind next run s + told_of runs s) (λ s. next s + told_of (run ∷ runs) s)
       ((order ++ range_with_len (next run.session) run.count) ++ told_from (next_behind next run) runs) (λ s. omega arith) more)
 
--- ---- runs that come to the sizes of the sessions
+-- ---- runs that have as many transactions as the sessions
 pub told_none : (runs : List Run) (n session : ℕ) → All (λ run. run.session < n) runs → n ≤ session → told_of runs session ≡ 0
 told_none [] n session all past = refl
 told_none (run ∷ runs) n session all past =

@@ -5,11 +5,11 @@ use Rattle.std.proofs.lemmas.Bool.{cases_lt}
 use Rattle.tcc_judge.specs.declared.least.TheConstants.{NONE}
 use Rattle.tcc_judge.specs.private.Least.{IsLeastOf}
 
--- nobody is meant
+-- no number is meant
 pub least_none : (Is : ℕ → Type 0) → ((n : ℕ) → Is n → ⊥) → IsLeastOf Is NONE
 least_none Is nobody = record { attained = inl refl; lowest = λ n is. absurd (nobody n is) }
 
--- others are meant, but the same numbers
+-- the same for numbers that are described in another way
 pub least_same : (Is Other : ℕ → Type 0) (least : ℕ) → ((n : ℕ) → Is n → Other n) → ((n : ℕ) → Other n → Is n) → IsLeastOf Is least → IsLeastOf Other least
 least_same Is Other least there back w = record { attained = go w.attained; lowest = λ n is. w.lowest n (back n is) }
   where
@@ -17,7 +17,7 @@ least_same Is Other least there back w = record { attained = go w.attained; lowe
     go (inl none) = inl none
     go (inr is) = inr (there least is)
 
--- one number more
+-- one more number
 pub least_lower : (Is Other : ℕ → Type 0) (least more : ℕ) → ((n : ℕ) → Is n → Other n) → Other more → ((n : ℕ) → Other n → Is n ⊎ (n ≡ more))
     → IsLeastOf Is least → IsLeastOf Other (min more least)
 least_lower Is Other least more there new back w = record { attained = go (cases_lt least more) w.attained; lowest = λ n is. low n (back n is) }

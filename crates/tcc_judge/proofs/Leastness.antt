@@ -1,4 +1,4 @@
--- What the rules with an order say of a claim that no cycle costs less.
+-- What the rules with an order say about a claim that no cycle costs less.
 use Rattle.std.proofs.Common.{◌≡◌, ◌≢◌, ◌<◌, ◌≤◌, ◌+◌, ◌⊎◌, ◌↔◌, ◌∙◌, inl, inr, ℕ, Bool, Option, None, Some, List, [], ◌∷◌, length, get_or, sym, ap, subst, arith}
 use Rattle.std.specs.Prelude.{IsTrue, false, unwrap_or}
 use Rattle.std.specs.List.{All}
@@ -48,7 +48,7 @@ by_order h level most runs more rule at (inr (pairs, inl (same, (none, apart))))
 by_order h level most runs more rule at (inr (pairs, inr (bounded, inl broken))) = inr ((λ at is. pairs at is.1), inr ((λ _. bounded), inl broken))
 by_order h level most runs more rule at (inr (pairs, inr (bounded, inr later))) = inr ((λ at is. pairs at is.1), inr ((λ _. bounded), inr later))
 
--- past a cost of 4 those are the rules
+-- above a cost of 4 those are the rules
 pub past_four : (h : History) (level : Level) (most : ℕ) (runs : List Run) → 4 < most → (said : Verdict Rule)
     → IsVerdictOf (onward_rules (judged h level) (order_of h runs) most) said → IsVerdictOf (least_rules h level most runs) said
 past_four h level most runs more verdict.Accepted (pairs, (bounded, (none, rest))) = (
@@ -58,7 +58,7 @@ past_four h level most runs more verdict.Accepted (pairs, (bounded, (none, rest)
 past_four h level most runs more (verdict.Rejected rule at) broken =
     inr ((λ at is. absurd (omega (arith, is.0, more))), inr ((λ at is. absurd (omega (arith, is.0, more))), by_order h level most runs more rule at broken))
 
--- the verdict on that no cycle costs less is that on the claim where the sizes and the links are right
+-- where the sizes and the links are right, the verdict that no cycle costs less is that on the claim
 pub with_links : (h : History) (k : LinksClaim) (runs : List Run) → k.least ≡ Some runs → HasLinksSizes h k → IsRightCycle h k → (said : Verdict Rule)
     → IsVerdictOf (least_rules h k.level k.cost runs) said → IsVerdictOf (cycle_rules h k) said
 with_links h k runs is sizes right said w =
@@ -91,13 +91,13 @@ module _ (h : History) (level : Level) (order positions : List ℕ) (lasts : Lis
         (these.1, keys_are),
       )
 
--- ---- and who is there
+-- ---- the transactions there
 module _ (h : History) (level : Level) (order positions : List ℕ) (ordered : IsOrdered h order) (kept : KeepsPairs h order positions) (most : ℕ)
     (members key_indices : List ℕ) (these : AreListed (IsMember (judged h level) order positions most) members) (keys_are : AreListed (IsStaleKey h) key_indices) where
   abbrev Member : ℕ → Type 0
   Member v = IsMember (judged h level) order positions most v
 
-  -- `init` stands before all others
+  -- `init` comes before all others
   never_init : (v : ℕ) → IsSpanned h order v → 0 < v
   never_init v (b, a, x, c, walk, reason, more, low, late, early) = go (cases_eq v 0)
     where
@@ -128,7 +128,7 @@ module _ (h : History) (level : Level) (order positions : List ℕ) (ordered : I
         (λ v. (these.each v).1) (λ k. (keys_are.each k).1) there;
   }
 
--- ---- and what is found there
+-- ---- what is found there
 module _ (j : Judged) (most : ℕ) (members key_indices : List ℕ) (w : HasAllBelow j most members key_indices) where
   pub some_cheaper : HasCheaperAmong j members most ⊎ HasCheaperIntoInit j key_indices most → NoneBelow j most → ⊥
   some_cheaper (inl is) none = below_among j members most none is
@@ -141,18 +141,18 @@ module _ (j : Judged) (most : ℕ) (members key_indices : List ℕ) (w : HasAllB
       go (inl few) = absurd (none (inl (s, links, cycle, w.all most (omega arith) s links cycle few (λ into. none (inr into)), few)))
       go (inr much) = much
 
-  -- where none comes to `init`, all those of so many steps are among them
+  -- where no cycle comes to `init`, all cycles that cost n are among them
   pub all_of_cost : (n : ℕ) → most ≡ n + 1 → NoneBelow j n → (HasCheaperIntoInit j key_indices most → ⊥) → HasAllAmong j members n
   all_of_cost n limit none into = record { none = none; all = λ s links cycle costs. w.all most (omega arith) s links cycle (omega (arith, costs, limit)) into }
 
-  -- the lowest that comes to `init` is in the first of those of so many steps
+  -- `init` and the lowest transaction with a link into it are the first of the cycles that cost n
   pub into_picked : NoneBelow j 4 → (n : ℕ) → most ≡ n + 1 → NoneBelow j n → (b : ℕ) → IsLowestIntoInit j key_indices most b
       → All (λ v. v < count j.history) (0 ∷ b ∷ []) × IsPickedAround j n (0 ∷ b ∷ [])
   into_picked four n limit none b is =
       picked_into j n none (never_read j four w.there) w.there key_indices w.named b (subst (λ (z : ℕ). IsLowestIntoInit j key_indices z b) limit is)
 
--- ---- and what the least of it costs
--- what has all below a cost has all below a lower one
+-- ---- the least cost there
+-- what has all cycles below a cost has all below a lower one
 pub all_lower : (j : Judged) (most n : ℕ) (members key_indices : List ℕ) → n ≤ most → HasAllBelow j most members key_indices → HasAllBelow j n members key_indices
 all_lower j most n members key_indices below w = record {
   there = w.there;
@@ -168,7 +168,7 @@ into_lower : (j : Judged) (key_indices : List ℕ) (most n : ℕ) → n ≤ most
 into_lower j key_indices most n below (b, (k, c, walk, listed, reason, few)) = (b, (k, c, walk, listed, reason, omega (arith, few, below)))
 
 module _ (j : Judged) (most : ℕ) (members key_indices : List ℕ) (w : HasAllBelow j most members key_indices) where
-  -- the cheapest of those among the transactions, where none into `init` costs less than a limit
+  -- the cheapest of the cycles among the transactions, where none into `init` costs less than a limit
   pub least_among : (limit : ℕ) → limit ≤ most → (HasCheaperIntoInit j key_indices limit → ⊥) → (c : ℕ) → IsCheapest (HasCheaperAmong j members) limit (Some c)
       → IsLeastBelow j most (Some c)
   least_among limit below into c (low, some, none) = (

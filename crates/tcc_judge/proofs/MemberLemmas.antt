@@ -1,4 +1,4 @@
--- The transactions over which a derived link leads back; and lists of what is marked.
+-- The transactions over which a derived link leads back; and lists of marked indices.
 use Rattle.std.proofs.Common.{◌≡◌, ◌≢◌, ◌<◌, ◌≤◌, ◌+◌, ◌-◌, ◌⊎◌, ◌↔◌, ◌++◌, ◌∷◌, [], inl, inr, ℕ, zero, suc, Bool, true, false, List, length, length-append, get_or, set, replicate, refl, sym, ap, subst, ◌∙◌, arith}
 use Rattle.std.specs.Prelude.{max, nat_lt}
 use Rattle.std.specs.List.{All, AllPairs, Contains}
@@ -68,7 +68,7 @@ module _ (n : ℕ) (order lasts : List ℕ) (numbering : IsNumbering n order) wh
           let was = before.each place (omega arith) in
           ((λ marked. was.0 (sym kept ∙ marked)), (λ is_under. kept ∙ was.1 is_under))
 
--- ---- who is marked
+-- ---- the marked transactions
 module _ (h : History) (order positions lasts : List ℕ) (stale : List Bool) (numbering : IsNumbering (count h) order) (first : get_or order 0 0 ≡ 0) (some : 0 < length order)
     (are : ArePositions (count h) order positions) (w : AreContradicted h order positions lasts stale)
     (marks : List Bool) (m : AreMarkedUnder (count h) order lasts (length order) marks) where
@@ -157,7 +157,7 @@ module _ (h : History) (order positions lasts : List ℕ) (stale : List Bool) (n
       under : get_or positions v 0 ≤ get_or lasts (get_or positions a 0) 0
       under = omega (arith, highest, on)
 
--- ---- who is led back to
+-- ---- the transactions to which something leads back
 module _ (n : ℕ) (order lasts : List ℕ) (numbering : IsNumbering n order) where
   pub led_more : (i : ℕ) (marks : List Bool) → i < length order → AreMarkedLed n order lasts i marks
       → AreMarkedLed n order lasts (i + 1) (set marks (get_or order i 0) (nat_lt 0 (get_or lasts i 0)))
@@ -189,14 +189,14 @@ module _ (one other : List Bool) where
   }
 
 -- ---- lists
--- each of the first m has one of the first n, and no two the same: so there are no more of them
+-- each of the first m has one of the first n, and no two have the same; so m is at most n
 fits : (n m : ℕ) (Has : ℕ → ℕ → Type 0) → ((i : ℕ) → i < m → (k : ℕ) × (k < n) × Has i k)
     → ((i j k : ℕ) → i < m → j < m → Has i k → Has j k → i ≡ j) → m ≤ n
 fits n zero Has each once = omega arith
 fits zero (suc m) Has each once = absurd (omega (arith, (each 0 (omega arith)).1))
 fits (suc n) (suc m) Has each once = let rest = fits n m Other other_each other_once in omega (arith, rest)
   where
-    -- that of the last one, where this one has the greatest
+    -- the one that the last has, for one that has the greatest
     Other : ℕ → ℕ → Type 0
     Other i k = Has i k ⊎ (Has i n × Has m k)
 
@@ -231,7 +231,7 @@ one_place list ascend i j l m e = go (cases_order i j)
     go (inr (inl low)) = absurd (omega (arith, ascend i j low m, e))
     go (inr (inr high)) = absurd (omega (arith, ascend j i high l, e))
 
--- numbers that ascend are no more than those of a list that has them all
+-- an ascending list has no more numbers than a list that has them all
 no_more : (list others : List ℕ) → DoAscend list → ((n : ℕ) → Contains list n → Contains others n) → length list ≤ length others
 no_more list others ascend all =
     fits (length others) (length list) (λ i k. get_or others k 0 ≡ get_or list i 0) each
@@ -242,7 +242,7 @@ no_more list others ascend all =
         let there = all (get_or list i 0) (i, l, get_or_default list i (get_or list i 0) 0 l) in
         (there.0, there.1, get_or_default others there.0 0 (get_or list i 0) there.1 ∙ there.2)
 
--- those that are marked below i
+-- the marked indices below i
 pub record AreMarkedTo (most : ℕ) (marks : List Bool) (i : ℕ) (list : List ℕ) : Type 0 where
   pub ascend : DoAscend list
   pub few : length list ≤ most
@@ -306,7 +306,7 @@ module _ (most : ℕ) (marks : List Bool) (i : ℕ) (list : List ℕ) (w : AreMa
   pub marked_more : get_or marks i false ≡ true → length list < most → AreMarkedTo most marks (i + 1) (list ++ i ∷ [])
   marked_more marked_here room = record { ascend = ascend_more; few = omega (arith, longer, room); each = each_more marked_here }
 
-  -- one more is too many
+  -- one more marked index is too many
   pub too_many : get_or marks i false ≡ true → i < length marks → most ≤ length list → AreFew most (IsMarked marks) → ⊥
   too_many marked_here inside full (others, few, all) =
       omega (
@@ -328,11 +328,11 @@ marked_all most marks i list all w = record {
   few = w.few;
 }
 
--- as many as were looked at are enough
+-- a list within a limit is within one more
 pub marked_further : (marks : List Bool) (i : ℕ) (list : List ℕ) → AreMarkedTo i marks i list → AreMarkedTo (i + 1) marks i list
 marked_further marks i list w = record { ascend = w.ascend; few = omega (arith, w.few); each = w.each }
 
--- few where as many are meant
+-- where one kind of numbers is few, a narrower kind is few too
 pub few_same : (most : ℕ) (Is Other : ℕ → Type 0) → ((n : ℕ) → Other n → Is n) → AreFew most Is → AreFew most Other
 few_same most Is Other back (list, few, all) = (list, few, λ n is. all n (back n is))
 
@@ -348,7 +348,7 @@ listed_same Is Other list same w = record {
 pub those_same : (most : ℕ) (Is Other : ℕ → Type 0) (list : List ℕ) → ((n : ℕ) → Is n ↔ Other n) → AreThose most Is list → AreThose most Other list
 those_same most Is Other list same w = record { listed = listed_same Is Other list same w.listed; few = w.few }
 
--- those of a list have what all have that are meant
+-- if all numbers that are meant have something, all numbers of the list have it
 pub listed_all : (Is Has : ℕ → Type 0) (list : List ℕ) → AreListed Is list → ((n : ℕ) → Is n → Has n) → All Has list
 listed_all Is Has list w has i d l = has (get_or list i d) ((w.each (get_or list i d)).0 (i, l, get_or_default list i (get_or list i d) d l))
 

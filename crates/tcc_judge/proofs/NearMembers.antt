@@ -1,4 +1,4 @@
--- Who is led back to, and who is near, by what was marked.
+-- The transactions to which something leads back, and those that are near, by what was marked.
 use Rattle.std.proofs.Common.{◌≡◌, ◌≢◌, ◌<◌, ◌≤◌, ◌/◌, ◌⊎◌, ◌↔◌, ◌∙◌, inl, inr, ℕ, Bool, true, false, List, length, get_or, refl, sym, ap, subst, arith}
 use Rattle.std.specs.List.{All, AllPairs}
 use Rattle.std.proofs.lemmas.Bool.{cases_eq, cases_lt}
@@ -20,7 +20,7 @@ use Rattle.tcc_judge.specs.private.Sources.{AreSources}
 use Rattle.tcc_judge.proofs.MemberLemmas.{few_same, listed_all, listed_ascend, marked_spanned, spanned_marked, those_few, those_same}
 use Rattle.tcc_judge.proofs.PositionLemmas.{at_before, before_at}
 
--- positions of an order are one list
+-- an order has only one list of positions
 pub one_positions : (n : ℕ) (order one other : List ℕ) → ArePlaces n order one → ArePlaces n order other → one ≡ other
 one_positions n order one other v w =
     ext_get_or 0 one other (v.long ∙ sym w.long)
@@ -42,7 +42,7 @@ module _ (h : History) (order positions : List ℕ) (ordered : IsOrdered h order
   no_earlier : (u v : ℕ) → get_or positions v 0 ≤ get_or positions u 0 → Before order u v → ⊥
   no_earlier u v up before = omega (arith, before_at (count h) order positions ordered.numbering are u v before, up)
 
-  -- all but `init` stand behind the first place
+  -- all but `init` come after the first place
   behind_first : (a : ℕ) → a < count h → 0 < a → 0 < get_or positions a 0
   behind_first a below some = go (cases_eq (get_or positions a 0) 0)
     where
@@ -50,7 +50,7 @@ module _ (h : History) (order positions : List ℕ) (ordered : IsOrdered h order
       go (inl none) = absurd (omega (arith, some, are.here a below, ap (λ z. get_or order z 0) none, ordered.init))
       go (inr other) = omega arith
 
-  -- none of those over which something leads back is `init`
+  -- no transaction over which something leads back is `init`
   spanned_some : (v : ℕ) → IsSpanned h order v → 0 < v
   spanned_some v (b, a, x, c, walk, reason, some, low, late, early) = go (cases_eq v 0)
     where
@@ -143,7 +143,7 @@ module _ (h : History) (order positions : List ℕ) (ordered : IsOrdered h order
       target_led b a price is =
           (b, is.key, is.reader, is.walk, (is.reason.0, (is.reason.1.0, tt)), aside_some b a price is, no_earlier b a is.back)
 
-      -- none of those from which something leads back is `init`
+      -- no transaction from which something leads back is `init`
       leading_some : (b : ℕ) → IsLeadingBack h order b → 0 < b
       leading_some b (a, x, c, walk, reason, some, apart) =
           spanned_some b (b, a, x, c, walk, reason, some, reason.0.2.0, apart, no_earlier b b (omega arith))

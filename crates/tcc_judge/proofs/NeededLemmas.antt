@@ -1,4 +1,4 @@
--- Blocks of sessions that are passed over, since nobody in them has to stand before another transaction.
+-- Blocks of sessions that are passed over, since none of their transactions has to come before another.
 use Rattle.std.proofs.Common.{◌≡◌, ◌<◌, ◌≤◌, ◌+◌, ◌*◌, ◌/◌, ◌∙◌, ◌⊎◌, inl, inr, ℕ, Bool, true, false, List, get_or, sym, subst, arith}
 use Rattle.std.proofs.lemmas.Bool.{cases_lt, false≢true}
 use Rattle.tcc_reads.specs.History.{History, IsBySession, owner}
@@ -18,7 +18,7 @@ use Rattle.tcc_judge.proofs.BehindLemmas.{IsBrokenPast, never_init}
 use Rattle.tcc_judge.proofs.ContradictedLemmas.{greatest_same}
 
 module _ (h : History) (needed : List Bool) (are : AreNeeded h needed) (number : ℕ) (unmarked : get_or needed number false ≡ false) where
-  -- of a block that is passed over nobody has to stand before another transaction
+  -- in a block that is passed over, no transaction has to come before another
   none_of_block : (b a : ℕ) (x : List ℕ) (c : ℕ) (walk : List Step) → IsReason (causally h) b a x c walk → 0 < b
       → number * WIDE ≤ owner h b → owner h b < (number + 1) * WIDE → ⊥
   none_of_block b a x c walk reason some late less =
@@ -28,7 +28,7 @@ module _ (h : History) (needed : List Bool) (are : AreNeeded h needed) (number :
       (are a b c x reason.0.1 (writer_in h x b (read_is_key h a c x reason.0.1) reason.0.2) some reason.0.0) in
       false≢true (sym unmarked ∙ marked)
 
-  -- who breaks the axiom is of a later session too
+  -- a transaction that breaks the axiom is of a later session too
   pub broken_passed : (order : List ℕ) → IsBrokenPast h order (number * WIDE) → IsBrokenPast h order ((number + 1) * WIDE)
   broken_passed order past at is some = go is (cases_lt (owner h at.0) ((number + 1) * WIDE))
     where
@@ -40,7 +40,7 @@ module _ (h : History) (needed : List Bool) (are : AreNeeded h needed) (number :
       go broken (inr high) = high
       go (x, c, walk, reason, apart) (inl low) = absurd (none_of_block at.0 at.1 x c walk reason some late low)
 
-  -- what is contradicted is so by earlier sessions
+  -- what is contradicted by earlier sessions is contradicted by more of them
   more : (order : List ℕ) (a : ℕ) (x : List ℕ) (c : ℕ) → IsContradictedBy h order 0 (number * WIDE) a x c → IsContradictedBy h order 0 ((number + 1) * WIDE) a x c
   more order a x c is = record {
     by = is.by;
@@ -85,7 +85,7 @@ module _ (h : History) (needed : List Bool) (are : AreNeeded h needed) (number :
     );
   }
 
-  -- who has to stand before one that stands before it is of an earlier session
+  -- a transaction that has to come before one that comes before it is of an earlier session
   pub sources_passed : IsBySession h.entries → (order : List ℕ) → LeadsOnward h order → (marks : List Bool) → AreSourcesTo h order (number * WIDE) marks
       → AreSourcesTo h order ((number + 1) * WIDE) marks
   sources_passed numbered order onward marks w = record {

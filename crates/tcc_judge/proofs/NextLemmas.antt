@@ -1,4 +1,4 @@
--- The next writers behind a place of an order, as one place more is passed.
+-- The next writers after a place of an order, as one more place is passed.
 use Rattle.std.proofs.Common.{◌≡◌, ◌≢◌, ◌<◌, ◌≤◌, ◌+◌, ◌==◌, ◌⊎◌, inl, inr, ℕ, true, false, List, [], map, length, get_or, set, take, replicate, slice_index, refl, sym, ap, subst, ◌∙◌, arith}
 use Rattle.std.specs.Prelude.{min}
 use Rattle.std.specs.List.{All, Contains, list_any}
@@ -25,7 +25,7 @@ known_in xs k = go (cases_Bool (list_any (λ j. j == k) xs))
     go (inl t) = inl (found_number xs k t)
     go (inr f) = inr (λ is. false≢true (sym f ∙ number_found xs k is))
 
--- ---- a table of which some keys are lowered
+-- ---- a table in which some keys are lowered
 pub lowered_none : (table : List (List ℕ)) (session number : ℕ) → AreLowered [] session number table table
 lowered_none table session number = record {
   long = refl;
@@ -68,7 +68,7 @@ module _ (key_indices : List ℕ) (i session number : ℕ) (old table : List (Li
           rw same (ap length same_row ∙ (length-set (row_of table one) session (min number (slice_index (row_of table one) session)) ∙ w.wide one low))
       wide_at k l (inr apart) = ap length (other_row k apart) ∙ w.wide k l
 
-      -- what stood there is that of before, or was lowered already
+      -- whether it was lowered already
       mine : (Contains (take i key_indices) one) ⊎ (Contains (take i key_indices) one → ⊥)
           → min number (slice_index (row_of table one) session) ≡ min number (slice_index (row_of old one) session)
       mine (inl is) = omega (arith, w.here one low is)
@@ -90,8 +90,8 @@ module _ (key_indices : List ℕ) (i session number : ℕ) (old table : List (Li
       kept_at k s l apart (inr other) is =
           ap (λ row. slice_index row s) (other_row k other) ∙ w.kept k s l (λ there. apart (still_taken key_indices i inside k there))
 
--- ---- one place more
--- a next writer behind one place is one behind each that it stands at or behind
+-- ---- one more place
+-- a next writer after one place is one after each place up to its own
 from_place : (h : History) (order x : List ℕ) (session b place other : ℕ) → (w : IsNextWriter h order x session place b) → other ≤ w.index
     → IsNextWriter h order x session other b
 from_place h order x session b place other w behind =
@@ -101,7 +101,7 @@ module _ (h : History) (order : List ℕ) (from place : ℕ) (inside : place < l
   still_next : (x : List ℕ) (session b : ℕ) → IsNextWriter h order x session (place + 1) b → IsNextWriter h order x session place b
   still_next x session b w = from_place h order x session b (place + 1) place w (omega (arith, w.behind))
 
-  -- a next writer was one already, or stands at the place
+  -- a next writer was one already, or is at the place
   next_or_here : (x : List ℕ) (session b : ℕ) → IsNextWriter h order x session place b → IsNextWriter h order x session (place + 1) b ⊎ (get_or order place 0 ≡ b)
   next_or_here x session b w = go (cases_eq w.index place)
     where
@@ -109,7 +109,7 @@ module _ (h : History) (order : List ℕ) (from place : ℕ) (inside : place < l
       go (inl same) = inr (ap (λ i. get_or order i 0) (sym same) ∙ w.here)
       go (inr apart) = inl (from_place h order x session b place (place + 1) w (omega (arith, w.behind, apart)))
 
-  -- who stands at the place is of no session of the block
+  -- the transaction at the place is of no session of the block
   pub next_outside : (table : List (List ℕ)) → ((session : ℕ) → session < WIDE → 0 < get_or order place 0 → owner h (get_or order place 0) ≢ from + session)
       → AreNextWriters h order from (place + 1) table → AreNextWriters h order from place table
   next_outside table apart w = record {
@@ -127,7 +127,7 @@ module _ (h : History) (order : List ℕ) (from place : ℕ) (inside : place < l
       go k session m b is (inl next) = next
       go k session m b is (inr same) = absurd (apart session m (omega (arith, is.committed, same)) (ap (owner h) same ∙ is.owned))
 
-  -- who stands there is of the block, and lowers the keys that it writes
+  -- the transaction there is of the block, and lowers the keys that it writes
   module _ (key_indices : List ℕ) (named : map (key_at h) key_indices ≡ (entry_at h (get_or order place 0)).writes)
       (within : All (λ key_index. key_index < length (keys h)) key_indices) (session : ℕ) (narrow : session < WIDE) (some : 0 < get_or order place 0)
       (below : get_or order place 0 < count h) (owned : owner h (get_or order place 0) ≡ from + session) where

@@ -38,7 +38,7 @@ module _ (h : History) (order positions : List ℕ) (numbering : IsNumbering (co
   pub pairs_found : (found : Option (ℕ × ℕ)) → IsFoundFirst (IsTurned h positions) found → IsFoundFirst (BreaksPair h order) found
   pairs_found found w = found_same (IsTurned h positions) (BreaksPair h order) turned_breaks breaks_turned found w
 
-  -- where no pair is turned all lead onward
+  -- where no pair is out of order all pairs lead onward
   pub leads_onward : ((a b : ℕ) → IsSessionPair h a b → Before order a b) → IsFoundFirst (IsTurned h positions) None → LeadsOnward h order
   leads_onward sessions none = λ b c pair. go b c pair
     where

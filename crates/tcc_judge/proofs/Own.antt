@@ -1,4 +1,4 @@
--- Own claims keep the rules, and what keeps the rules is accepted.
+-- One's own claims keep the rules, and what keeps the rules is accepted.
 use Rattle.std.proofs.Common.{◌≡◌, ◌≤◌, inl, inr, ℕ, Option, None, Some, List, [], refl, arith}
 use Rattle.tcc_reads.specs.History.{History}
 use Rattle.tcc_graph.specs.Levels.{judged}

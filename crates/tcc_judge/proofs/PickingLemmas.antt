@@ -1,4 +1,4 @@
--- The transactions of a cycle, and of the first of those into `init`.
+-- The transactions of a cycle, and those of the first cycle into `init`.
 use Rattle.std.proofs.Common.{◌≡◌, ◌≢◌, ◌<◌, ◌≤◌, ◌+◌, inl, inr, ℕ, zero, suc, List, [], ◌∷◌, length, map, refl, sym, subst, arith}
 use Rattle.std.specs.List.{All, Contains}
 use Rattle.std.proofs.lemmas.List.Elements.{All-cons, All-nil}
@@ -33,7 +33,7 @@ module _ (j : Judged) (n : ℕ) (none : NoneBelow j n) (never : NoneIntoInit j.h
   from_init : (b : ℕ) (x : List ℕ) (c : ℕ) (walk : List Step) → IsReason j b 0 x c walk → IsSessionPair j.history 0 b
   from_init b x c walk reason = initial_pair j.history 0 b refl there (positive b reason.0.0) reason.0.2.0
 
-  -- a derived link into `init` and a pair to where it begins cost so much at least
+  -- a derived link into `init` and a pair to where it begins cost at least n
   dear : (b : ℕ) (x : List ℕ) (c : ℕ) (walk : List Step) → IsReason j b 0 x c walk → n ≤ length walk + 2
   dear b x c walk reason =
       omega (
@@ -48,7 +48,7 @@ module _ (j : Judged) (n : ℕ) (none : NoneBelow j n) (never : NoneIntoInit j.h
   way_costs w [] other lead = absurd (other (sym lead))
   way_costs w (l ∷ links) other lead = omega (arith, cost_cons l links, some_cost l)
 
-  -- who is the last of a way of so many steps from `init` to itself comes so
+  -- the last transaction of a way of n steps from `init` to itself has a link into `init`
   last_into : (w p : ℕ) → IsLastAt j 0 0 n w p → ComesIntoInit j key_indices (n + 1) w
   last_into w p last = by last.link.0 last.link.1 last.link.2 last.link.3 last.link.4
     where
@@ -68,7 +68,7 @@ module _ (j : Judged) (n : ℕ) (none : NoneBelow j n) (never : NoneIntoInit j.h
             omega (arith, sum, costs, derived_cost b a x c walk, way_costs w front reason.0.0 lead),
           )
 
-  -- so the lowest that does is picked
+  -- so the lowest that has one is picked
   pub picked_into : (b : ℕ) → IsLowestIntoInit j key_indices (n + 1) b
       → All (λ v. v < count j.history) (0 ∷ b ∷ []) × IsPickedAround j n (0 ∷ b ∷ [])
   picked_into b ((k, c, walk, listed, reason, few), lowest) = (

@@ -1,9 +1,13 @@
 -- Positions of an order.
-use Rattle.std.proofs.Common.{◌≡◌, ◌≢◌, ◌<◌, ◌≤◌, ◌+◌, ◌⊎◌, inl, inr, ℕ, List, length, get_or, set, replicate, take, sym, ap, subst, ◌∙◌, arith}
+use Rattle.std.proofs.Common.{◌≡◌, ◌≢◌, ◌<◌, ◌≤◌, ◌+◌, ◌⊎◌, inl, inr, ℕ, false, List, length, eqb, get_or, set, replicate, take, sym, ap, subst, ◌∙◌, arith}
 use Rattle.std.specs.Prelude.{min}
 use Rattle.std.specs.List.{Contains}
-use Rattle.std.proofs.lemmas.Bool.{cases_eq}
+use Rattle.std.proofs.lemmas.Bool.{cases_eq, eqb-true, ne_eqb}
+use Rattle.std.proofs.lemmas.List.Elements.{All-contains}
 use Rattle.std.proofs.lemmas.List.{get_or-set_same, get_or-set_other, get_or_default, length-set, length-replicate, take_all}
+use Rattle.std.proofs.lemmas.Map.Keys.{IsDistinct-from_apart}
+use Rattle.std.proofs.lemmas.Map.Steps.{length-le_from_distinct_below}
+use Rattle.std.proofs.lemmas.Map.Views.{Contains-from_any}
 use Rattle.tcc_reads.specs.History.{History, count}
 use Rattle.tcc_graph.specs.Orders.{Before, IsNumbering}
 use Rattle.tcc_graph.specs.Relations.{IsReadsPair}
@@ -17,6 +21,15 @@ use Rattle.tcc_judge.specs.private.Least.{IsLeastOf}
 use Rattle.tcc_judge.proofs.LeastLemmas.{least_none, least_same, least_lower}
 use Rattle.tcc_judge.specs.private.Positions.{ArePositions, IsTurned}
 use Rattle.tcc_judge.proofs.ReadingLemmas.{reading_at, reading_place}
+
+-- a list with each number below n once has no more than n numbers
+pub numbering_few : (n : ℕ) (order : List ℕ) → IsNumbering n order → length order ≤ n
+numbering_few n order is =
+    length-le_from_distinct_below order n (IsDistinct-from_apart eqb order distinct)
+    (λ q any. All-contains (λ a. a < n) order q is.below (Contains-from_any eqb-true q order any))
+  where
+    distinct : (i j d : ℕ) → i < j → j < length order → eqb (get_or order i d) (get_or order j d) ≡ false
+    distinct i j d less l = ne_eqb _ _ (λ same. is.once i j less l (get_or_default order i 0 d (omega arith) ∙ same ∙ get_or_default order j d 0 l))
 
 -- the first i numbers have their positions
 pub record ArePositionsTo (n : ℕ) (i : ℕ) (order : List ℕ) (positions : List ℕ) : Type 0 where
@@ -56,7 +69,7 @@ all_placed n order positions i numbering all w = record {
         let at : get_or positions a 0 ≡ k = sym (ap (λ z. get_or positions z 0) e) ∙ w.seen k (omega arith) in
         ap (λ z. get_or order z 0) at ∙ e
 
--- who stands before whom
+-- which comes before which
 module _ (n : ℕ) (order positions : List ℕ) (numbering : IsNumbering n order) (are : ArePositions n order positions) where
   stands_at : (k a : ℕ) → k < length order → get_or order k 0 ≡ a → get_or positions a 0 ≡ k
   stands_at k a l e =
@@ -74,7 +87,7 @@ module _ (n : ℕ) (order positions : List ℕ) (numbering : IsNumbering n order
 
 -- ---- pairs that are not in order
 
--- one of the first i readers does not stand behind a
+-- one of the first i readers does not come after a
 abbrev pub IsTurnedIn : List ℕ → List ℕ → ℕ → ℕ → ℕ → Type 0
 IsTurnedIn readers positions a i c = Contains (take i readers) c × (get_or positions c 0 ≤ get_or positions a 0)
 

@@ -44,7 +44,7 @@ module _ (h : History) (a : ℕ) (readers key_indices : List ℕ) (are : AreRead
           → (i : ℕ) × (i < length readers) × (get_or readers i 0 ≡ c) × (key_at h (get_or key_indices i 0) ≡ x)
       go (k, l, is) = by k is ((are.each c k).1 (l, subst (λ (y : List ℕ). IsReadsPair h a c y) (sym is) pair))
 
-  -- so by the index of its key
+  -- and is found by the index of its key
   pub reading_index : (c k : ℕ) → k < length (keys h) → IsReadsPair h a c (key_at h k)
       → (i : ℕ) × (i < length readers) × (get_or readers i 0 ≡ c) × (get_or key_indices i 0 ≡ k)
   reading_index c k low pair = go ((are.each c k).1 (low, pair))
@@ -56,7 +56,7 @@ module _ (h : History) (a : ℕ) (readers key_indices : List ℕ) (are : AreRead
           let both = sym at ∙ (get_or_default (zip readers key_indices) i (0, 0) (c, k) l ∙ e) in
           (i, inside, ap (λ (p : ℕ × ℕ). p.0) both, ap (λ (p : ℕ × ℕ). p.1) both)
 
--- ---- what is meant by readings, one after the other
+-- ---- what is meant by readings, one after another
 module _ (h : History) (a : ℕ) (readers key_indices : List ℕ) (Is : List ℕ → ℕ → ℕ → Type 0) where
   abbrev pub By : ℕ → ℕ → Type 0
   By i n = Is (key_at h (get_or key_indices i 0)) (get_or readers i 0) n

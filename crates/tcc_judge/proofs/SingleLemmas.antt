@@ -1,4 +1,4 @@
--- What stands behind a transaction and has to stand before it by a single pair.
+-- Transactions that come after another one and have to come before it by a single pair.
 use Rattle.std.proofs.Common.{◌≡◌, ◌≢◌, ◌<◌, ◌≤◌, ◌+◌, ◌&&◌, ◌⊎◌, inl, inr, ℕ, true, false, Option, List, [], ◌∷◌, length, get_or, refl, sym, ap, subst, ◌∙◌, arith}
 use Rattle.std.specs.Prelude.{min, nat_lt, nat_le}
 use Rattle.std.specs.List.{Contains}
@@ -118,7 +118,7 @@ module _ (positions writers : List ℕ) (begin end position : ℕ) (rising : IsN
                   omega (arith, ap (λ z. get_or positions z 0) same, high)
 
   module _ (index : ℕ) (point : IsPartitionPoint (λ b. is_passed positions begin end position b ≡ true) (λ b. is_passed positions begin end position b ≡ false) writers index) where
-    -- one that is meant stands at the point or behind it
+    -- one that is meant is at the point or after it
     from_point : (b : ℕ) → IsInSession positions writers begin end position b → (k : ℕ) × (index ≤ k) × (k < length writers) × (get_or writers k 0 ≡ b)
     from_point b is = go is.writer
       where
@@ -163,8 +163,8 @@ module _ (positions writers : List ℕ) (begin end position : ℕ) (rising : IsN
         behind (inr low) =
             absurd (false≢true (sym failed ∙ or_right _ _ (and_from _ _ (lt-ltb b end less) (le-leb (get_or positions b 0) position low))))
 
--- ---- the sources of a reader, one after the other
--- one of the first sources is one of these writers and stands behind a position
+-- ---- the sources of a reader, one after another
+-- one of the first sources is one of these writers and comes after a position
 pub record IsSourceIn (positions : List ℕ) (writers : List ℕ) (position : ℕ) (reads : List (ℕ × ℕ)) (end : ℕ) (b : ℕ) : Type 0 where
   pub index : ℕ
   pub first : index < end
@@ -240,7 +240,7 @@ module _ (positions writers : List ℕ) (position : ℕ) (reads : List (ℕ × �
 -- ---- both together
 module _ (h : History) (positions ws : List ℕ) (begin a c : ℕ) (onward : (u v : ℕ) → IsSessionPair h u v → get_or positions u 0 < get_or positions v 0)
     (is_begin : IsBegin h c begin) (from : a < count h) where
-  -- `init` stands behind nobody
+  -- `init` comes after no transaction
   init_first : (b : ℕ) → get_or positions a 0 < get_or positions b 0 → 0 < b
   init_first b behind = go (cases_eq b 0) (cases_eq a 0)
     where
@@ -304,7 +304,7 @@ module _ (h : History) (order positions : List ℕ) (numbering : IsNumbering (co
       behind (inr (inl less)) = less
       behind (inr (inr more)) = absurd (apart (at_before (count h) order positions numbering are b a reason.0.2.0 reason.0.1.0 more))
 
-  -- one transaction more
+  -- one more transaction
   pub singles_found : (found : Option (ℕ × ℕ)) (a b : ℕ) → count h < NONE → IsLeastOf (IsSingleOf h positions a) b
       → IsFoundFirst (IsBrokenBelow h order a) found → IsFoundFirst (IsBrokenBelow h order (a + 1)) (first_with found b a)
   singles_found found a b few least w =

@@ -1,4 +1,4 @@
--- Which transactions have to stand before one that stands before them, as the places of an order and the blocks of sessions come.
+-- Which transactions have to come before one that comes before them, place by place and block by block.
 use Rattle.std.proofs.Common.{◌≡◌, ◌≢◌, ◌<◌, ◌≤◌, ◌+◌, ◌-◌, ◌⊎◌, ◌↔◌, inl, inr, ℕ, Bool, true, false, List, [], length, get_or, set, replicate, slice_index, refl, sym, ap, subst, ◌∙◌, arith}
 use Rattle.std.specs.Prelude.{min}
 use Rattle.std.specs.List.{Contains}
@@ -100,7 +100,7 @@ gaps_same h Is Other table there back w = record {
   each = λ k s l m. least_same (Is k s) (Other k s) (get_or (row_of table k) s 0) (λ n is. there k s n l is) (λ n is. back k s n l is) (w.each k s l m);
 }
 
--- lowered with others, they are the least of these too
+-- lowered to some more gaps, they are the least of these too
 pub gaps_with : (h : History) (Is By : ℕ → ℕ → ℕ → Type 0) (old new : List (List ℕ)) → AreGaps h Is old → AreLoweredWith By old new
     → AreGaps h (λ k s n. Is k s n ⊎ By k s n) new
 gaps_with h Is By old new w down = record {
@@ -163,7 +163,7 @@ module _ (h : History) (clocks : List (List ℕ)) (a : ℕ) (readers key_indices
       there k s n (inl is) = inl is
       there k s n (inr (j, low, at, mine)) = inr (j, omega arith, at, mine)
 
-      -- of another key, or by one of those before
+      -- from another key, or from an earlier one
       back : (k s n : ℕ) → Or (i + 1) k s n
           → Or i k s n ⊎ ((k ≡ get_or key_indices i 0) × (n ≡ gap_of (get_or (row_of clocks (get_or readers i 0)) s 0)))
       back k s n (inl is) = inl (inl is)
@@ -222,7 +222,7 @@ module _ (h : History) (clocks : List (List ℕ)) (a : ℕ) (readers key_indices
           by (j, low, reader, key) = inr (j, omega (arith, low, all), key, ap (λ z. gap_of (get_or (row_of clocks z) s 0)) reader ∙ mine)
 
 -- ---- whether a transaction writes a key that it reaches a reader of
--- of the first keys none has so small a gap
+-- none of the first keys has a gap that small
 abbrev pub NoneReaching : List ℕ → List (List ℕ) → ℕ → ℕ → ℕ → Type 0
 NoneReaching key_indices table s b end = (m : ℕ) → m < end → gap_of b < get_or (row_of table (get_or key_indices m 0)) s 0
 
@@ -250,11 +250,11 @@ module _ (h : History) (table : List (List ℕ)) (s b : ℕ) (key_indices : List
           omega (arith, w m (omega arith), ap (λ z. get_or (row_of table z) s 0) at, low)
 
 -- ---- marks
--- who is outside of the block is in none of its lanes
+-- a transaction outside the block is in none of its lanes
 pub outside_lane : (owners : List ℕ) (from b s : ℕ) → IsOutside owners from b → IsInLane owners from b s → ⊥
 outside_lane owners from b s outside lane = outside lane.1 s lane.0 lane.2
 
--- and who is in one of them is in no other
+-- and one that is in a lane is in no other
 pub one_lane : (h : History) (owners : List ℕ) (from : ℕ) (table : List (List ℕ)) (b s : ℕ) → IsInLane owners from b s → IsReachingIn h owners from table b
     → IsReaching h table s b
 one_lane h owners from table b s lane (t, other, is) =
@@ -322,7 +322,7 @@ module _ (h : History) (owners : List ℕ) (from : ℕ) (clocks : List (List ℕ
             by (inl same) = absurd (omega (arith, led, none, ap (λ z. get_or lasts z 0) same))
             by (inr other) = (i, omega arith, led, is)
 
-  -- those marked were marked before, or at one of the first places
+  -- the marked transactions were marked before, or at one of the first places
   abbrev pub AreMarkedTo : List Bool → ℕ → List Bool → Type 0
   AreMarkedTo old end marks =
       (v : ℕ) → v < count h → (get_or marks v false ≡ true)
@@ -336,7 +336,7 @@ module _ (h : History) (owners : List ℕ) (from : ℕ) (clocks : List (List ℕ
       back (inr (i, low, is)) = absurd (omega arith)
 
   module _ (place : ℕ) (table : List (List ℕ)) (w : AreGaps h (To place) table) (b : ℕ) (here : get_or order place 0 ≡ b) (few : b < NONE) where
-    -- by the least gaps it reaches exactly where it does by some
+    -- by the least gaps it reaches a reader exactly where it does by some
     reaching_at : IsReachingIn h owners from table b → IsReachingAt h owners from clocks order lasts place b
     reaching_at (s, lane, (k, inside, it_writes, low)) = go (w.each k s inside lane.0).attained
       where
@@ -390,7 +390,7 @@ module _ (h : History) (owners : List ℕ) (from : ℕ) (clocks : List (List ℕ
                 inr (mine, at_reaching (subst (IsReachingAt h owners from clocks order lasts place) mine at))
             by (inr other) = inl ((before v l).1 (inr (i, omega arith, is)))
 
--- ---- who leads back
+-- ---- the transactions that lead back
 module _ (h : History) (order positions : List ℕ) (ordered : IsOrdered h order) (onward : LeadsOnward h order) (are : ArePositions (count h) order positions)
     (owners : List ℕ) (owned : AreOwners h owners) (from : ℕ) (clocks : List (List ℕ)) (clocked : AreClocks h from clocks) (few : count h < NONE)
     (lasts : List ℕ) (stale : List Bool) (w : AreContradictedTo h order positions (from + WIDE) lasts stale) where
@@ -422,7 +422,7 @@ module _ (h : History) (order positions : List ℕ) (ordered : IsOrdered h order
               go (inl none) = absurd (omega (arith, led, ap (λ z. get_or lasts z 0) none, w.first))
               go (inr other) = omega arith
 
-          -- `init` stands first
+          -- `init` is the first
           a_some : 0 < get_or order p 0
           a_some = go (cases_eq (get_or order p 0) 0)
             where
@@ -568,7 +568,7 @@ module _ (h : History) (order positions : List ℕ) (ordered : IsOrdered h order
           by (inl less) = inl ((before.each v l).1 (is, less))
           by (inr above) = let one = led_by v is above under in inr (one.0, omega (arith, one.1, all), one.2)
 
--- ---- no block yet, and all
+-- ---- no block yet, and all blocks
 pub no_sources : (h : History) (order : List ℕ) (n : ℕ) → n ≡ count h → AreSourcesTo h order 0 (replicate n false)
 no_sources h order n long = record {
   long = length-replicate n false ∙ long;

@@ -1,4 +1,4 @@
--- What the rules say of a claim of a cycle, by its links.
+-- What the rules say about a claim of a cycle, by its links.
 use Rattle.std.proofs.Common.{◌≡◌, inl, inr, ℕ, Option, None, Some, List, ◌∷◌, refl, sym, subst}
 use Rattle.tcc_reads.specs.History.{History}
 use Rattle.tcc_graph.specs.Levels.{judged}

@@ -1,4 +1,4 @@
--- An order as its runs come.
+-- An order, run by run.
 use Rattle.std.proofs.Common.{◌≡◌, ◌≢◌, ◌<◌, ◌≤◌, ◌+◌, ◌==◌, ◌&&◌, ◌⊎◌, inl, inr, ℕ, zero, suc, true, false, cond, nat_lt, Option, None, Some, List, [], ◌∷◌, ◌++◌, length, length-append, get_or, set, take, drop, append_assoc, refl, sym, ap, subst, ◌∙◌, arith}
 use Rattle.std.specs.List.{range_with_len}
 use Rattle.std.proofs.lemmas.Bool.{cases_Bool, cases_eq, cases_lt, eq-eqb, ne_eqb, and_parts, and_from, lt-ltb, ltb-true}
@@ -11,7 +11,7 @@ use Rattle.tcc_judge.specs.Runs.{first_of, next_behind, told_from, told_of, orde
 use Rattle.tcc_judge.specs.private.Decoding.{AreFirsts, IsTold}
 use Rattle.tcc_judge.proofs.Firsts.{first_none, firsts_rise}
 
--- ---- where a transaction stands
+-- ---- where a transaction is
 pub record StandsIn (h : History) (n : ℕ) (session : ℕ) : Type 0 where
   pub above : 0 < n
   pub below : n < count h
@@ -72,7 +72,7 @@ firsts_push h end first firsts w = (omega (arith, length-append firsts (first �
         let last : s ≡ end = omega (arith, same, w.long) in
         get_or_at firsts first [] 0 s (sym same) ∙ (w.here ∙ ap (first_of h) (sym last))
 
--- ---- a run more
+-- ---- one more run
 pub range_last : (a n : ℕ) → range_with_len a (n + 1) ≡ range_with_len a n ++ (a + n) ∷ []
 range_last a zero = let e : a + 0 ≡ a = omega arith in rw e refl
 range_last a (suc n) =
@@ -157,7 +157,7 @@ module _ (h : History) (runs : List Run) (run : Run) (firsts next order : List �
       order_is =
           rw (w.so_far, w.goes_on run.session within) (ap (λ xs. 0 ∷ xs) (sym (told_last (first_of h) runs run)))
 
-  -- there are not so many left
+  -- fewer transactions are left than the run has
   pub not_told : (run.session < length next → get_or next run.session 0 + run.count ≤ get_or firsts (run.session + 1) 0 → ⊥) → (later : List Run)
       → AreWhole h (runs ++ run ∷ later) → ⊥
   not_told apart later whole = apart (omega (arith, inside, w.long)) fits
@@ -178,7 +178,7 @@ module _ (h : History) (runs : List Run) (run : Run) (firsts next order : List �
             w.begins.each (run.session + 1) (omega (arith, inside)),
           )
 
--- ---- whether all sessions have come to their ends
+-- ---- whether all sessions have reached their ends
 pub whole_from : (h : History) (runs : List Run) (firsts next order : List ℕ) (i : ℕ) → length next ≤ i → IsTold h runs firsts next order
     → ((session : ℕ) → session < i → session < length next → get_or firsts (session + 1) 0 ≡ get_or next session 0) → AreWhole h runs
 whole_from h runs firsts next order i all w ends = record {

@@ -7,7 +7,7 @@ use Rattle.tcc_graph.specs.declared.link.Link.{Link}
 use Rattle.tcc_cert.specs.declared.large.LinksClaim.{LinksClaim}
 use Rattle.tcc_cert.specs.declared.large.Run.{Run}
 
--- the claim that links are a cycle, and perhaps, with these runs, that it is a least one
+-- the claim that links are a cycle; with runs, also that it is a least one
 abbrev pub links_claim_of : Level → History → List Link → Option (List Run) → LinksClaim
 links_claim_of level h links least = record { level = level; transactions = count h; links = links; cost = cost links; least = least }
 

@@ -9,11 +9,11 @@ use Rattle.tcc_least.specs.Shapes.{IsRound, IsReturn}
 use Rattle.tcc_judge.specs.Orders.{BreaksPair}
 use Rattle.tcc_judge.specs.Runs.{AreWhole, order_of}
 
--- the links, one at least, are a cycle of the cost that is claimed
+-- the links, at least one, are a cycle of the cost that is claimed
 abbrev pub IsRightCycle : History → LinksClaim → Type 0
 IsRightCycle h k = AreLinksRight (judged h k.level) k.cost k.links
 
--- the runs beside a claim that no cycle costs less: past a cost of 4 those of an order, else none
+-- the runs beside a claim that no cycle costs less: above a cost of 4 those of an order, else none
 pub record AreNeededRuns (h : History) (most : ℕ) (runs : List Run) : Type 0 where
   pub whole : 4 < most → AreWhole h runs
   pub none : most ≤ 4 → runs ≡ []
@@ -32,6 +32,6 @@ BreaksRound h most at = (most ≤ 4) × IsRound h most at.0 at.1
 abbrev pub BreaksReturn : History → ℕ → ℕ × ℕ → Type 0
 BreaksReturn h most at = (most ≡ 4) × IsReturn h at.0 at.1
 
--- past a cost of 4: c reads from a, and a does not stand before it in the order that the runs tell
+-- above a cost of 4: c reads from a, and a does not come before it in the order that the runs encode
 abbrev pub BreaksOnward : History → ℕ → List Run → ℕ × ℕ → Type 0
 BreaksOnward h most runs at = (4 < most) × BreaksPair h (order_of h runs) at

@@ -7,11 +7,11 @@ use Rattle.tcc_graph.specs.Links.{IsReason}
 use Rattle.tcc_graph.specs.Orders.{Before}
 use Rattle.tcc_graph.specs.declared.step.Step.{Step}
 
--- c reads from a, and a does not stand before it
+-- c reads from a, and a does not come before it
 abbrev pub BreaksPair : History → List ℕ → ℕ × ℕ → Type 0
 BreaksPair h order at = (x : List ℕ) × IsReadsPair h at.0 at.1 x × (Before order at.0 at.1 → ⊥)
 
--- there is a reason of the level why b stands before a, and it does not
+-- the level gives a reason why b has to come before a, and b does not
 abbrev pub BreaksAxiom : Judged → List ℕ → ℕ × ℕ → Type 0
 BreaksAxiom j order at =
     (x : List ℕ) × (c : ℕ) × (walk : List Step) × IsReason j at.0 at.1 x c walk × (Before order at.0 at.1 → ⊥)

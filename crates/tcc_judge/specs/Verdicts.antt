@@ -1,4 +1,4 @@
--- The rules that are asked of a claim about a history of any size.
+-- The rules that are asked about a claim on a history of any size.
 use Rattle.std.specs.Prelude.{ℕ, ◌≡◌, ◌<◌, List, [], ◌∷◌, Option, None, Some, length}
 use Rattle.tcc_reads.specs.History.{History, count}
 use Rattle.tcc_graph.specs.Levels.{Judged, judged}
@@ -20,7 +20,7 @@ use Rattle.tcc_judge.specs.declared.verdict.Rule.TheVariants.{Sizes, Links, Shor
 abbrev pub rule_number : Rule → ℕ
 rule_number = elim [ Sizes ↦ 1 | Links ↦ 2 | ShortPairs ↦ 3 | ShortLinks ↦ 4 | Onward ↦ 5 | Limits ↦ 6 | Cheaper ↦ 7 | Pairs ↦ 8 | Axiom ↦ 9 ]
 
--- the sizes are those of the history, and the runs of each session come to its committed transactions
+-- the sizes are those of the history, and the runs of each session have all its committed transactions
 pub record HasOrderSizes (h : History) (k : RunsClaim) : Type 0 where
   pub transactions : k.transactions ≡ count h
   pub sessions : k.sessions ≡ length h.sessions
@@ -30,7 +30,7 @@ pub record HasOrderSizes (h : History) (k : RunsClaim) : Type 0 where
 abbrev pub pair_rules : Judged → List ℕ → List (Asked Rule)
 pair_rules j order = at_each Pairs (BreaksPair j.history order) ∷ at_each Axiom (BreaksAxiom j order) ∷ []
 
--- the rules for a claim that runs tell a commit order, in turn
+-- the rules for a claim that runs encode a commit order, in turn
 abbrev pub order_rules : History → RunsClaim → List (Asked Rule)
 order_rules h k = as_whole Sizes (HasOrderSizes h k) ∷ pair_rules (judged h k.level) (order_of h k.runs)
 
@@ -38,13 +38,13 @@ order_rules h k = as_whole Sizes (HasOrderSizes h k) ∷ pair_rules (judged h k.
 abbrev pub links_rules : History → LinksClaim → List (Asked Rule)
 links_rules h k = of_links Links (judged h k.level) k.cost k.links ∷ []
 
--- the rules on that no cycle costs less, in turn: up to a cost of 4 without an order, and past that with the one that the runs tell
+-- the rules that no cycle costs less, in turn: up to a cost of 4 without an order, and above that with the one that the runs encode
 abbrev pub least_rules : History → Level → ℕ → List Run → List (Asked Rule)
 least_rules h level most runs =
     at_each ShortPairs (BreaksRound h most) ∷ at_each ShortLinks (BreaksReturn h most) ∷ at_each Onward (BreaksOnward h most runs)
     ∷ as_whole Limits (4 < most → IsBounded (judged h level) (order_of h runs) most) ∷ as_whole Cheaper (NoneBelow (judged h level) most) ∷ []
 
--- the rules on that no cycle costs less, where that is claimed
+-- the rules that no cycle costs less, where that is claimed
 abbrev pub least_rules_of : History → Level → ℕ → Option (List Run) → List (Asked Rule)
 least_rules_of h level most None = []
 least_rules_of h level most (Some runs) = least_rules h level most runs

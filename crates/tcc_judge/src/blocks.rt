@@ -1,7 +1,7 @@
-//! Blocks of 64 sessions, one after the other, and for each of them a pass back along an order of the causal pairs: with the vector
-//! clocks of the block, and of each key and each of its sessions the next writer behind a place. For N transactions, R reads, W writes
-//! and S sessions that takes some 64 (N + 2 R) + W steps a block, all of them maxima and comparisons of rows. Of a block that says
-//! nothing no pass is made.
+//! Blocks of 64 sessions, one after another. For each of them a pass goes back along an order of the causal pairs, with the vector clocks
+//! of the block. For each key and each of its sessions it has the next writer after a place. For N transactions, R reads, W writes and S
+//! sessions this takes some 64 (N + 2 R) + W steps a block, all of them maxima and comparisons of rows. A block that cannot contradict
+//! anything gets no pass.
 ghost use Rattle.std.specs.Prelude.{◌≡◌, ◌<◌, ◌≤◌, ◌+◌, ◌*◌, length, IfOk, MatchOption, OnOk};
 ghost use Rattle.tcc_clocks.specs.{Clocks.AreOwners, Clocks.IsOutside, Clocks.LeadsOnward, Needed.AreNeeded, declared.latest.TheConstants.WIDE};
 ghost use Rattle.tcc_judge.specs.private.Decoding.{IsOrdered};
@@ -15,23 +15,23 @@ use tcc_clocks::{
 use tcc_graph::LargeGraph;
 use tcc_txn::NoMemory;
 
-/// What is known of a block at a place of the order.
+/// What is known about a block at a place of the order.
 #[derive(Drop)]
 pub(crate) struct Block {
-    /// Of each transaction the index of its session.
+    /// The index of each transaction's session.
     owners: Vec<u32>,
     /// The transactions right before each one of the order.
     steps: Steps,
     /// The first session of the block.
     from: u32,
-    /// Of each transaction its clock.
+    /// The clock of each transaction.
     pub(crate) clocks: SharedRows,
-    /// Of each key the next writers.
+    /// The next writers of each key.
     pub(crate) next: NextWriters,
 }
 
 impl Block {
-    /// What is known before the first block is begun.
+    /// What is known before the first block begins.
     pub(crate) fn new(alloc: Global, graph: &LargeGraph, order: &[u32]) -> Result<Block, NoMemory>
         requires ordered { IsOrdered graph.now order.now }
         requires onward { LeadsOnward graph.now order.now }
@@ -51,8 +51,8 @@ impl Block {
         })
     }
 
-    /// Of each block whether one of its transactions may have to stand before another: whether it writes a key that is read from
-    /// another one. What is known of the others says nothing, so they are passed over.
+    /// For each block whether one of its transactions may have to come before another: whether it writes a key that is read from another
+    /// one. The other blocks are passed over, since they cannot contradict anything.
     pub(crate) fn needed(&self, alloc: Global, graph: &LargeGraph) -> Result<Vec<bool>, NoMemory>
         requires { AreOwners graph.now self.now.owners.items }
         ensures long { IfOk result (λ needed. length graph.now.sessions ≤ length needed.items * WIDE) }
@@ -61,7 +61,7 @@ impl Block {
         needed_blocks(alloc, graph, &self.owners)
     }
 
-    /// Begins a block behind the last place.
+    /// Begins a block after the last place.
     pub(crate) fn begin(
         &mut self,
         graph: &LargeGraph,
@@ -73,7 +73,7 @@ impl Block {
         ensures from { OnOk result (self.new.from ≡ number * WIDE) }
         ensures at { OnOk result (IsAt graph.now order.now (length order.now) self.new) }
     {
-        // there are few sessions, as this call says
+        // this call ensures that there are few sessions
         graph.sessions();
         self.from = (number * WIDE) as u32;
         find_clocks(
@@ -88,7 +88,7 @@ impl Block {
         Ok(())
     }
 
-    /// The index of a transaction's session in the block; none of one that is outside.
+    /// The index of a transaction's session in the block; none for a transaction outside it.
     pub(crate) fn lane_of(&self, a: u32) -> Option<usize>
         requires { a < length self.now.owners.items }
         ensures { MatchOption result

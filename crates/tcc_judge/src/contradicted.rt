@@ -1,8 +1,7 @@
-//! What an order of the causal pairs contradicts, at `Causal`: by the passes of `blocks`. Of each place the last transaction
-//! is kept that has to stand before it and doesn't, and of each key whether one has to stand before `init`. That takes the steps of
-//! these passes, and for each reading that is contradicted one search by halving in each session. A pass forward then marks the
-//! transactions that have to stand before others (`sources`). A block none of whose transactions writes a key that is read from
-//! another one is passed over.
+//! What an order of the causal pairs contradicts, at `Causal`, by the passes of `blocks`. For each place it keeps the last transaction that
+//! has to come before it and doesn't, and for each key whether a transaction has to come before `init`. This takes the steps of these
+//! passes, and for each reading that is contradicted one search by halving in each session. A pass forward then marks the transactions that
+//! have to come before others (`sources`). A block none of whose transactions writes a key that is read from another one is passed over.
 ghost use Rattle.std.specs.Prelude.{◌≡◌, ◌<◌, ◌≤◌, ◌+◌, ◌⊎◌, ◌↔◌, ℕ, List, length, slice_index, slice_index_or, true, false, Contains, IfOk, IsTrue, OnOk};
 ghost use Rattle.std.specs.List.Sorted.{IsNonDecreasing};
 ghost use Rattle.tcc_reads.specs.History.{History, count};
@@ -13,7 +12,7 @@ ghost use Rattle.tcc_judge.specs.private.Blocks.{IsAt, IsWide};
 ghost use Rattle.tcc_judge.specs.private.Sources.{AreSources};
 ghost use Rattle.tcc_judge.specs.private.Contradicted.{AreContradicted, AreContradictedTo, IsBehindAt, IsBehindSome, IsBehindTo, IsGreatestOf};
 
-use crate::behind::least_reaching;
+use crate::axiom_violation::least_reaching;
 use crate::blocks::Block;
 use crate::least::NONE;
 use crate::next_writers::NextWriters;
@@ -27,15 +26,15 @@ use tcc_txn::NoMemory;
 /// What an order contradicts.
 #[derive(Drop)]
 pub(crate) struct Contradicted {
-    /// Of each place of the order the position of the last transaction that has to stand before it and doesn't; 0 where there is none.
+    /// For each place of the order the position of the last transaction that has to come before it and doesn't; 0 where there is none.
     pub(crate) lasts: Vec<u32>,
-    /// Of each key whether a reading of it from `init` is contradicted.
+    /// For each key whether a reading of it from `init` is contradicted.
     pub(crate) stale: Vec<bool>,
-    /// Of each transaction whether it has to stand before one that stands before it and isn't `init`.
+    /// For each transaction whether it has to come before one that comes before it and isn't `init`.
     pub(crate) sources: Vec<bool>,
 }
 
-/// Whether a transaction of the block writes the key, stands at a place or behind it, and reaches the reader.
+/// Whether a transaction of the block writes the key, is at a place or after it, and reaches the reader.
 fn is_contradicted(block: &Block, key_index: u32, reader: u32) -> bool
     requires key { key_index < length block.now.next }
     requires reader { reader < length block.now.clocks }
@@ -58,7 +57,7 @@ fn last_up_to(numbers: &[u32], high: u32) -> u32
     numbers[end - 1]
 }
 
-/// The position of the last of them; 0 where there is none.
+/// The position of the last such transaction; 0 where there is none.
 fn contradicted_to(
     graph: &LargeGraph,
     block: &Block,
@@ -89,8 +88,7 @@ fn contradicted_to(
     last
 }
 
-/// The position of the last transaction of the block that has to stand before the one at a place, and stands behind it; 0 where there is
-/// none.
+/// The position of the last transaction of the block that has to come before the one at a place, and comes after it; 0 where there is none.
 fn last_contradicted(
     graph: &LargeGraph,
     block: &Block,
@@ -112,7 +110,7 @@ fn last_contradicted(
     last
 }
 
-/// Marks the keys of which the block contradicts a reading from `init`, which stands first.
+/// Marks the keys for which the block contradicts a reading from `init`, which comes first.
 fn mark_stale(graph: &LargeGraph, block: &Block, stale: &mut [bool])
     requires wide { IsWide graph.now block.now }
     requires some { 0 < count graph.now }
@@ -159,7 +157,7 @@ fn note_block(
     Ok(())
 }
 
-/// What the order contradicts. Before each block `progress` is told how many are done.
+/// What the order contradicts. Before each block `progress` is given the number of blocks done.
 pub(crate) fn contradicted_along<P: Progress>(
     alloc: Global,
     graph: &LargeGraph,

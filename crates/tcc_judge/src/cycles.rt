@@ -5,9 +5,9 @@ ghost use Rattle.tcc_cert.specs.declared.large.Run.{Run};
 ghost use Rattle.tcc_judge.specs.{declared.cycles.TheConstants.SHORT, Cycles.AreNeededRuns, Cycles.HasLinksSizes, Verdicts.cycle_rules, Verdicts.least_rules};
 ghost use Rattle.tcc_rules.specs.Asked.{IsVerdictOf};
 
-use crate::decoding::told;
+use crate::decoding::decode_runs;
+use crate::least_by_order::onward_verdict;
 use crate::links::judge_links;
-use crate::onward::onward_verdict;
 use crate::verdict::{rejected, rejected_at};
 use crate::{Judging, Rule, Verdict};
 use std::alloc::Global;
@@ -40,7 +40,7 @@ pub(crate) fn are_needed(
     if cost <= SHORT {
         return Ok(is_none(runs));
     }
-    match told(alloc, graph, runs)? {
+    match decode_runs(alloc, graph, runs)? {
         Some(_order) => Ok(true),
         None => Ok(false),
     }
@@ -65,7 +65,7 @@ fn has_links_sizes(alloc: Global, graph: &LargeGraph, claim: &LinksClaim) -> Res
     }
 }
 
-/// What the rules say of that no cycle costs less, up to a cost of 4.
+/// The verdict of the rules that no cycle costs less, up to a cost of 4.
 fn short_verdict(graph: &LargeGraph, cost: u32) -> Verdict
     requires { cost ≤ SHORT }
     ensures { (level : Level) (runs : List Run) → IsVerdictOf (least_rules graph.now level cost runs) result }
@@ -77,7 +77,7 @@ fn short_verdict(graph: &LargeGraph, cost: u32) -> Verdict
     }
 }
 
-/// What the rules say of that no cycle costs less, with the runs that are needed.
+/// The verdict of the rules that no cycle costs less, with the runs that are needed.
 pub(crate) fn least_verdict<P: Progress>(
     alloc: Global,
     graph: &LargeGraph,
@@ -92,16 +92,16 @@ pub(crate) fn least_verdict<P: Progress>(
     if cost <= SHORT {
         return Ok(short_verdict(graph, cost));
     }
-    let Some(order) = told(alloc, graph, runs)? else {
+    let Some(order) = decode_runs(alloc, graph, runs)? else {
         return Ok(rejected(Rule::Sizes));
     };
     let verdict = onward_verdict(alloc, graph, level, cost, &order, progress)?;
     Ok(verdict)
 }
 
-/// Accepts the claim exactly where the links are a cycle of its cost and its level, and, where that is claimed, no cycle costs
-/// less; otherwise names the first broken rule and where. That no cycle costs less is decided up to a cost of 4 at once, and past that
-/// within the limits of its rule, with the runs of an order that keeps all pairs.
+/// Accepts the claim exactly where the links are a cycle of its cost and its level, and, where that is claimed, no cycle costs less.
+/// Otherwise it names the first broken rule and where. Up to a cost of 4 it is decided directly that no cycle costs less. Above that it is
+/// decided within the limits of its rule, with the runs of an order that keeps all pairs.
 pub fn judge_cycle(alloc: Global, graph: &LargeGraph, claim: &LinksClaim) -> Judging
     ensures { IfOk result (IsVerdictOf (cycle_rules graph.now claim.now)) }
 {

@@ -1,4 +1,4 @@
-//! Run-length decoding: the order that runs tell, run by run. For N transactions, S sessions and R runs that takes N + S + R steps.
+//! Run-length decoding: the order that runs encode, run by run. For N transactions, S sessions and R runs this takes N + S + R steps.
 ghost use Rattle.std.specs.Prelude.{◌≡◌, ◌<◌, ◌≤◌, ◌+◌, ◌-◌, ◌++◌, ◌↔◌, [], List, length, slice_index, IfOk, IfSome, IsTrue, MatchOption, OnOk};
 ghost use Rattle.std.specs.List.{range_with_len};
 ghost use Rattle.tcc_reads.specs.History.{History, IsBySession, count};
@@ -11,18 +11,18 @@ use tcc_cert::Run;
 use tcc_graph::LargeGraph;
 use tcc_txn::NoMemory;
 
-/// An order as far as its runs came.
+/// An order as far as its runs were read.
 #[derive(Drop)]
 pub(crate) struct Decoder {
-    /// Where the transactions of each session begin, and behind the last session the number of all transactions.
+    /// Where the transactions of each session begin, and after the last session the number of all transactions.
     pub(crate) firsts: Vec<u32>,
-    /// The transaction that comes next of each session.
+    /// The next transaction of each session.
     pub(crate) next: Vec<u32>,
     /// The order so far.
     pub(crate) order: Vec<u32>,
 }
 
-/// Where the session behind this one begins, which begins at `n`.
+/// Where the session after this one begins, if this one begins at `n`.
 fn end_of(graph: &LargeGraph, session: u32, n: u32) -> u32
     requires numbered { IsBySession graph.now.entries }
     requires some { 0 < n }
@@ -45,7 +45,7 @@ pub(crate) fn firsts_of(alloc: Global, graph: &LargeGraph) -> Result<Vec<u32>, N
     requires { IsBySession graph.now.entries }
     ensures { IfOk result (λ firsts. AreFirsts graph.now firsts.items) }
 {
-    // there is `init`, as this call says
+    // this call ensures that there is `init`
     graph.count();
     let mut firsts = Vec::new(alloc);
     let mut first = 1;
@@ -57,7 +57,7 @@ pub(crate) fn firsts_of(alloc: Global, graph: &LargeGraph) -> Result<Vec<u32>, N
     Ok(firsts)
 }
 
-/// A decoder that no run came to yet.
+/// A decoder that has read no run yet.
 pub(crate) fn begin(alloc: Global, graph: &LargeGraph) -> Result<Decoder, NoMemory>
     requires { IsBySession graph.now.entries }
     ensures { IfOk result (λ decoder. IsTold graph.now [] decoder.firsts.items decoder.next.items decoder.order.items) }
@@ -75,7 +75,7 @@ pub(crate) fn begin(alloc: Global, graph: &LargeGraph) -> Result<Decoder, NoMemo
     })
 }
 
-/// The number behind the transactions of a run; none where there are not so many transactions of a session left.
+/// The number after the transactions of a run; none where the session has fewer transactions left.
 fn end_of_run(decoder: &Decoder, run: Run) -> Option<u32>
     requires { length decoder.now.firsts.items ≡ length decoder.now.next.items + 1 }
     ensures { MatchOption result
@@ -107,7 +107,7 @@ pub(crate) fn push_all(numbers: &mut Vec<u32>, from: u32, end: u32) -> Result<()
     Ok(())
 }
 
-/// One run more; false where there are not so many transactions of a session.
+/// Reads one more run; false where the session has fewer transactions left.
 pub(crate) fn tell(decoder: &mut Decoder, run: Run) -> Result<bool, NoMemory>
     requires { length decoder.old.firsts.items ≡ length decoder.old.next.items + 1 }
     ensures { (h : History) (runs : List Run) → IsTold h runs decoder.old.firsts.items decoder.old.next.items decoder.old.order.items
@@ -122,7 +122,7 @@ pub(crate) fn tell(decoder: &mut Decoder, run: Run) -> Result<bool, NoMemory>
     Ok(true)
 }
 
-/// Whether the runs of each session came to its end.
+/// Whether the runs of each session reached its end.
 pub(crate) fn is_whole(decoder: &Decoder) -> bool
     requires { length decoder.now.firsts.items ≡ length decoder.now.next.items + 1 }
     ensures { (h : History) (runs : List Run) → IsTold h runs decoder.now.firsts.items decoder.now.next.items decoder.now.order.items
@@ -136,8 +136,8 @@ pub(crate) fn is_whole(decoder: &Decoder) -> bool
     true
 }
 
-/// The order that runs tell; none where they do not come to the sizes of the sessions.
-pub(crate) fn told(
+/// The order that runs encode; none where they do not match the sizes of the sessions.
+pub(crate) fn decode_runs(
     alloc: Global,
     graph: &LargeGraph,
     runs: &[Run],
@@ -147,7 +147,7 @@ pub(crate) fn told(
         (λ order. AreWhole graph.now runs.now × (order.items ≡ order_of graph.now runs.now))) }
     ensures ordered { IfOk result (λ found. IfSome found (λ order. IsOrdered graph.now order.items)) }
 {
-    // each transaction is of a session, and there is `init`, as these calls say
+    // these calls ensure that each transaction is of a session, and that there is `init`
     graph.sessions();
     graph.count();
     let mut decoder = begin(alloc, graph)?;

@@ -11,8 +11,8 @@ ghost use Rattle.tcc_rules.specs.declared.verdict.Verdict.TheVariants as verdict
 
 use tcc_graph::LargeGraph;
 
-/// Of a history whose reads are resolved, the rules on a claim of an order hold exactly where its sizes are those of the history
-/// and its runs tell a commit order of its level.
+/// For a history whose reads are resolved, the rules on a claim of an order hold exactly where its sizes are those of the history and its
+/// runs encode a commit order of its level.
 pub fn accepted_order(graph: &LargeGraph)
     ensures { (k : RunsClaim) → AllHold (order_rules graph.now k)
         ↔ (HasOrderSizes graph.now k × IsCommitOrder (judged graph.now k.level) (order_of graph.now k.runs)) }
@@ -27,7 +27,7 @@ pub fn accepted_cycle()
         → ((s : ℕ) × IsCycle (judged h k.level) s k.links) × (cost k.links ≡ k.cost) }
 {}
 
-/// Where the rules on that no cycle costs less hold too, it is a least one.
+/// Where the rules that no cycle costs less hold too, it is a least one.
 pub fn accepted_least()
     ensures { (h : History) (k : LinksClaim) (runs : List Run) → IsRightCycle h k → AllHold (least_rules h k.level k.cost runs)
         → (s : ℕ) × IsLeastCycle (judged h k.level) s k.links }
@@ -38,7 +38,7 @@ pub fn is_least()
     ensures { (h : History) (k : LinksClaim) (runs : List Run) → k.least ≡ Some runs → AllHold (cycle_rules h k) → AreLeast (judged h k.level) k.links }
 {}
 
-/// Of a history whose reads are resolved, each commit order keeps the rules, told by its runs.
+/// For a history whose reads are resolved, each commit order keeps the rules, encoded by its runs.
 pub fn own_order(graph: &LargeGraph)
     ensures { (level : Level) (order : List ℕ) → IsCommitOrder (judged graph.now level) order
         → AllHold (order_rules graph.now (order_claim_of level graph.now order)) }
@@ -47,13 +47,13 @@ pub fn own_order(graph: &LargeGraph)
     graph.count();
 }
 
-/// Each cycle keeps the rules, where no more is claimed of it.
+/// Each cycle keeps the rules, where no more is claimed about it.
 pub fn own_cycle()
     ensures { (h : History) (level : Level) (s : ℕ) (links : List Link) → IsCycle (judged h level) s links
         → AllHold (cycle_rules h (cycle_claim_of level h links)) }
 {}
 
-/// Each least cycle that costs four steps at most keeps the rules on that no cycle costs less, without runs.
+/// Each least cycle that costs at most four steps keeps the rules that no cycle costs less, without runs.
 pub fn own_short()
     ensures { (h : History) (level : Level) (s : ℕ) (links : List Link) → IsLeastCycle (judged h level) s links → cost links ≤ 4
         → AllHold (cycle_rules h (short_claim_of level h links)) }

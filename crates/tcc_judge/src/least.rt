@@ -1,4 +1,4 @@
-//! The number that stands for no transaction.
+//! The number that means no transaction.
 
-/// Stands for no transaction: it is greater than the number of any.
+/// Means no transaction: it is greater than the number of any.
 pub(crate) const NONE: u32 = u32::MAX;

@@ -1,26 +1,26 @@
-//! The judge of claims on a history of any size: an order that is told by runs, or a cycle by its links. It uses the history
-//! and the claim alone, and nothing of how the claim was found.
+//! The judge of claims on a history of any size: an order that runs encode, or a cycle by its links. It uses only the history and the
+//! claim, and nothing about how the claim was found.
 #![tactic(auto)]
 
-mod behind;
+mod axiom_violation;
 mod blocks;
 mod claims;
 mod contradicted;
 mod cycles;
 mod decoding;
+mod first_backward_read;
 pub mod laws;
 mod least;
+mod least_by_order;
 mod links;
 mod members;
 mod next_writers;
-mod onward;
 mod ordering;
 mod picking;
 mod positions;
 mod singles;
 mod sources;
 mod taken;
-mod turned;
 mod verdict;
 
 pub use claims::judge;

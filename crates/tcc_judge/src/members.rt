@@ -1,5 +1,5 @@
-//! The transactions over which a derived link leads back, and what is marked as a list, while there are few enough. For N
-//! transactions that takes N steps.
+//! The transactions over which a derived link leads back, and marked indices as a list, while there are few enough. For N transactions this
+//! takes N steps.
 ghost use Rattle.std.specs.Prelude.{◌≡◌, ◌<◌, ◌≤◌, ◌↔◌, length, IfOk, IsTrue, MatchOption};
 ghost use Rattle.tcc_graph.specs.Orders.{IsNumbering};
 ghost use Rattle.tcc_judge.specs.Spanned.{AreFew};
@@ -8,14 +8,14 @@ ghost use Rattle.tcc_judge.specs.private.Members.{AreListed, AreMarkedBoth, AreM
 use std::alloc::Global;
 use tcc_txn::NoMemory;
 
-/// Whether a place is not behind a last one, if there is one.
+/// Whether a place is not after a last one, if there is one.
 fn is_under(place: usize, far: u32) -> bool
     ensures { IsTrue result ↔ ((0 < far) × (place ≤ far)) }
 {
     0 < far && place <= far as usize
 }
 
-/// Marks the transactions whose place is not behind the last one of a place up to it.
+/// Marks the transactions whose place is not after the last one of a place up to it.
 pub(crate) fn marked_under(
     alloc: Global,
     count: u32,
@@ -35,7 +35,7 @@ pub(crate) fn marked_under(
     Ok(marks)
 }
 
-/// Marks the transactions to which something leads back, by the last that does of each place; 0 is none.
+/// Marks the transactions to which something leads back, by the last that does so for each place; 0 is none.
 pub(crate) fn marked_led(
     alloc: Global,
     count: u32,
@@ -69,7 +69,7 @@ pub(crate) fn both_marked(
     Ok(marks)
 }
 
-/// The indices that are marked, ascending; none where there are more than so many.
+/// The indices that are marked, ascending; none where there are more than `most`.
 pub(crate) fn marked(
     alloc: Global,
     marks: &[bool],

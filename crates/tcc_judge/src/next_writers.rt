@@ -1,4 +1,4 @@
-//! Of each key and each session of a block the next writer behind a place of an order, along the order backwards.
+//! For each key and each session of a block the next writer after a place of an order, along the order backwards.
 ghost use Rattle.std.specs.Prelude.{◌≡◌, ◌<◌, ℕ, List, true, length, set, All, IfOk, OnOk, replicate};
 ghost use Rattle.tcc_graph.specs.Tables.{row_of};
 ghost use Rattle.tcc_judge.specs.{declared.least.TheConstants.NONE, private.NextWriters.AreLowered, private.NextWriters.lowered};
@@ -10,8 +10,8 @@ use std::marker::Model;
 use tcc_clocks::{Clock, WIDE};
 use tcc_txn::NoMemory;
 
-/// A row for each key, of the least number noted for each session, which contracts see as a list of lists. One row, held once, is that
-/// of all keys that nobody was noted for.
+/// A row for each key, of the least number noted for each session, which contracts see as a list of lists. One row, held once, is that of
+/// all keys for which nothing was noted.
 #[derive(Drop)]
 pub(crate) struct NextWriters {
     rows: Vec<Clock>,
@@ -31,7 +31,7 @@ impl Model for NextWriters {
 }
 
 impl NextWriters {
-    /// Of so many keys nobody yet.
+    /// For `keys` keys, with nothing noted yet.
     pub(crate) fn new(alloc: Global, keys: usize) -> Result<NextWriters, AllocError>
         ensures { IfOk result (λ t. t ≡ replicate keys (replicate WIDE NONE)) }
     {
@@ -41,7 +41,7 @@ impl NextWriters {
         Ok(NextWriters { rows, which })
     }
 
-    /// Forgets all; the room that the rows took is kept.
+    /// Forgets all rows, and keeps their memory.
     pub(crate) fn clear(&mut self)
         ensures { self.new ≡ replicate (length self.old) (replicate WIDE NONE) }
     {
@@ -57,7 +57,7 @@ impl NextWriters {
         &self.rows[self.which[key_index as usize] as usize]
     }
 
-    /// Whether nobody was noted for a key: its row has no number of a session.
+    /// Whether nothing was noted for a key: its row has no number of a session.
     pub(crate) fn is_nobodys(&self, key_index: u32) -> bool
         requires { key_index < length self.now }
         ensures { result ≡ true → row_of self.now key_index ≡ replicate WIDE NONE }

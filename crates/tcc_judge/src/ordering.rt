@@ -1,14 +1,14 @@
-//! The judge of a claim that runs tell a commit order.
+//! The judge of a claim that runs encode a commit order.
 ghost use Rattle.std.specs.Prelude.{◌≡◌, IfOk, IfSome, MatchOption};
 ghost use Rattle.tcc_graph.specs.Levels.{judged};
 ghost use Rattle.tcc_judge.specs.{Orders.BreaksAxiom, Runs.order_of, private.Least.IsFoundFirst, private.Positions.KeepsPairs, private.Decoding.IsOrdered};
 ghost use Rattle.tcc_judge.specs.Verdicts.{HasOrderSizes, order_rules, pair_rules};
 ghost use Rattle.tcc_rules.specs.Asked.{IsVerdictOf};
 
-use crate::behind::first_behind;
-use crate::decoding::told;
+use crate::axiom_violation::first_behind;
+use crate::decoding::decode_runs;
+use crate::first_backward_read::kept_positions;
 use crate::singles::first_single;
-use crate::turned::kept_positions;
 use crate::verdict::{rejected, rejected_at};
 use crate::{Judging, Rule, Verdict};
 use std::alloc::Global;
@@ -17,7 +17,7 @@ use tcc_cert::RunsClaim;
 use tcc_graph::{LargeGraph, Level};
 use tcc_txn::NoMemory;
 
-/// The first pair of a transaction and one that it has to stand before and doesn't.
+/// The first pair of a transaction and one that it has to come before and doesn't.
 fn first_broken<P: Progress>(
     alloc: Global,
     graph: &LargeGraph,
@@ -36,7 +36,7 @@ fn first_broken<P: Progress>(
     }
 }
 
-/// What the rules on an order say of one that has each transaction once, and every session pair in order.
+/// The verdict of the rules on an order that has each transaction once, and every session pair in order.
 fn pairs_verdict<P: Progress>(
     alloc: Global,
     graph: &LargeGraph,
@@ -57,7 +57,7 @@ fn pairs_verdict<P: Progress>(
     }
 }
 
-/// The order that a claim tells; none where its sizes are not those of the history.
+/// The order of a claim; none where its sizes are not those of the history.
 fn claimed_order(
     alloc: Global,
     graph: &LargeGraph,
@@ -71,21 +71,21 @@ fn claimed_order(
     if claim.transactions != graph.count() || claim.sessions as usize != graph.sessions().len() {
         return Ok(None);
     }
-    let Some(order) = told(alloc, graph, claim.runs.as_slice())? else {
+    let Some(order) = decode_runs(alloc, graph, claim.runs.as_slice())? else {
         return Ok(None);
     };
     Ok(Some(order))
 }
 
-/// Accepts the claim exactly where the runs come to the sizes of the sessions and tell a commit order of the level; otherwise
-/// names the first broken rule and where.
+/// Accepts the claim exactly where the runs match the sizes of the sessions and encode a commit order of the level; otherwise names the
+/// first broken rule and where.
 pub fn judge_order(alloc: Global, graph: &LargeGraph, claim: &RunsClaim) -> Judging
     ensures { IfOk result (IsVerdictOf (order_rules graph.now claim.now)) }
 {
     judge_order_watched(alloc, graph, claim, &Unwatched)
 }
 
-/// As `judge_order`, and at `Causal` `progress` is told how far this is: how many blocks of 64 sessions are done.
+/// As `judge_order`, and at `Causal` `progress` is given how many blocks of 64 sessions are done.
 pub(crate) fn judge_order_watched<P: Progress>(
     alloc: Global,
     graph: &LargeGraph,

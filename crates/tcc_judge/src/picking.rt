@@ -1,21 +1,21 @@
-//! Where the first of the least cycles goes, where it costs more than the shapes of short cycles tell: by the searches of rule 7, at one
-//! cost after the other, until none costs less and one costs as much. From 8 steps on the cost is doubled, and what a least cycle costs is
-//! asked first. It is picked by the rule of ties, from the last link backwards.
+//! Where the first of the least cycles goes, where it costs more than the shapes of short cycles show. The searches of rule 7 look for it,
+//! at one cost after another, until none costs less and one costs as much. From 8 steps on the cost is doubled, and what a least cycle
+//! costs is asked first. The cycle is picked by the rule of ties, from the last link backwards.
 //!
 //! It is looked for near to what an order of all transactions contradicts; where there is no order that keeps all pairs, at all
-//! transactions. No limit refuses a history. A search at L steps takes what `near` and `cheapest_among` of `tcc_lanes` do: for S sources
-//! and T targets of links back, M transactions near to them, N in all and R reads some L (S + M) (N + R) / 64 + S T + M M steps, where L
-//! counts for no more than the longest of shortest walks; and then for each of the M in a feedback vertex set what the links among the
-//! M are. What `cheaper_among` takes is added once.
+//! transactions. No limit refuses a history. A search at L steps takes what `near` and `cheapest_among` of `tcc_lanes` do. Say there are S
+//! sources and T targets of links back, M transactions near to them, N in all, and R reads. That is some L (S + M) (N + R) / 64 + S T + M M
+//! steps, where L counts for no more than the longest of shortest walks. Each member of a feedback vertex set of the M then takes as many
+//! steps as there are links among the M. What `cheaper_among` takes is added once.
 ghost use Rattle.std.specs.Prelude.{◌<◌, ◌≤◌, ◌≡◌, ◌+◌, ◌^◌, ℕ, [], ◌∷◌, IfOk, IfSome, MatchOption};
 ghost use Rattle.tcc_graph.specs.Levels.{judged};
 ghost use Rattle.tcc_least.specs.Shapes.{NoneBelow};
 ghost use Rattle.tcc_judge.specs.{Picking.IsFirstAround, private.Onward.HasAllBelow, private.Picking.IsCircleBelow, private.Picking.IsLeastBelow, private.Picking.IsOrderKept};
 
 use crate::contradicted::{Contradicted, contradicted_along};
-use crate::decoding::{push_all, told};
-use crate::onward::{Narrowed, narrow_on};
-use crate::turned::kept_positions;
+use crate::decoding::{decode_runs, push_all};
+use crate::first_backward_read::kept_positions;
+use crate::least_by_order::{Narrowed, narrow_on};
 use std::alloc::Global;
 use tcc_base::Unwatched;
 use tcc_cert::Run;
@@ -39,11 +39,11 @@ pub(crate) struct OrderKept {
     pub(crate) order: Vec<u32>,
     /// The position of each of them.
     pub(crate) positions: Vec<u32>,
-    /// What it contradicts.
+    /// What the order contradicts.
     pub(crate) found: Contradicted,
 }
 
-/// The order that runs tell, where it keeps all pairs.
+/// The order that runs encode, where it keeps all pairs.
 fn order_kept(
     alloc: Global,
     graph: &LargeGraph,
@@ -51,7 +51,7 @@ fn order_kept(
 ) -> Result<Option<OrderKept>, NoMemory>
     ensures { IfOk result (λ kept. IfSome kept (IsOrderKept graph.now)) }
 {
-    let Some(order) = told(alloc, graph, runs)? else {
+    let Some(order) = decode_runs(alloc, graph, runs)? else {
         return Ok(None);
     };
     let Ok(positions) = kept_positions(alloc, graph, &order)? else {
@@ -70,7 +70,7 @@ fn everything(alloc: Global, graph: &LargeGraph) -> Result<Narrowed, NoMemory>
     ensures { (level : Level) (most : ℕ) → NoneBelow (judged graph.now level) 4
         → IfOk result (λ all. HasAllBelow (judged graph.now level) most all.members.items all.key_indices.items) }
 {
-    // So many keys are held by no memory.
+    // Memory cannot hold this many keys.
     let Ok(key_count) = u32::try_from(graph.keys().len()) else {
         return Err(NoMemory);
     };
@@ -160,7 +160,7 @@ fn least_below(
     }
 }
 
-/// The first of the cycles of so many steps, where none has fewer.
+/// The first of the cycles of `steps` steps, where none has fewer.
 fn first_of(
     alloc: Global,
     graph: &LargeGraph,
@@ -181,8 +181,8 @@ fn first_of(
     }
 }
 
-/// The first of the least cycles, if it costs so many steps at most, where none costs less than one number. If that is as many, it is
-/// looked for at once; else what it costs is asked first.
+/// The first of the least cycles, if it costs at most `steps`, where none costs less than `none`. If the two are equal, it is looked for at
+/// once; else its cost is asked first.
 fn first_between(
     alloc: Global,
     graph: &LargeGraph,
@@ -211,8 +211,8 @@ fn first_between(
     Ok(first)
 }
 
-/// The cost up to which cycles are looked for next, where none costs less than one number, and less than the other is asked of. A
-/// shortest walk comes to no transaction twice, so past as many steps as there are transactions all is looked for at once.
+/// The cost up to which cycles are looked for next, below `end`, where none costs less than `none`. A shortest walk comes to no transaction
+/// twice. So above as many steps as there are transactions all costs are looked for at once.
 fn next_cost(none: u32, end: u32, count: u32) -> u32
     requires { none < end }
     ensures from { none ≤ result }
@@ -253,8 +253,8 @@ fn first_below(
     Ok(None)
 }
 
-/// The first of the least cycles, if it costs so many steps at most; none only where each costs more. The runs are those of an order
-/// that keeps all pairs, which nobody has to trust: by others, or by none, it is looked for at all transactions, and that takes longer.
+/// The first of the least cycles, if it costs at most `most` steps; none only where each costs more. The runs are those of an order that
+/// keeps all pairs, and need not be trusted. With other runs, or none, the cycle is looked for at all transactions, and that takes longer.
 pub fn first_around(
     alloc: Global,
     graph: &LargeGraph,
@@ -265,7 +265,7 @@ pub fn first_around(
     requires none { NoneBelow (judged graph.now level) 4 }
     ensures { IfOk result (λ found. MatchOption found (NoneBelow (judged graph.now level) (most + 1)) (IsFirstAround (judged graph.now level))) }
 {
-    // So many links are held by no memory.
+    // Memory cannot hold this many links.
     let Some(end) = most.checked_add(1) else {
         return Err(NoMemory);
     };

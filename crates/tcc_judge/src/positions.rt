@@ -13,10 +13,7 @@ pub(crate) fn positions_of(alloc: Global, order: &[u32], count: u32) -> Result<V
 {
     let mut positions = vec![in alloc; 0; count as usize]?;
     for (position, number) in order.iter().enumerate() {
-        let Ok(position) = u32::try_from(position) else {
-            return Err(NoMemory);
-        };
-        positions[*number as usize] = position;
+        positions[*number as usize] = position as u32;
     }
     Ok(positions)
 }

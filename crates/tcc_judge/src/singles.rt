@@ -1,6 +1,6 @@
-//! The first transaction that stands behind another and has to stand before it, at `Atomic`, where single pairs alone are asked of:
-//! for each reading the writers of its key in the reader's session, by halving, and the reader's other sources. For R reads, each
-//! of a transaction with D of them at most, and W writers of a key at most that takes some R D log W steps.
+//! The first transaction that comes after another and has to come before it, at `Atomic`, where only single pairs matter. It asks for each
+//! reading about the writers of its key in the reader's session, by halving, and about the reader's other sources. Say there are R reads,
+//! each of a transaction with at most D of them, and at most W writers of a key. Then this takes some R D log W steps.
 ghost use Rattle.std.specs.Prelude.{◌≡◌, ◌≤◌, ◌<◌, ◌↔◌, ℕ, length, slice_index, Contains, IfOk, IsTrue};
 ghost use Rattle.std.specs.List.Sorted.{IsNonDecreasing};
 ghost use Rattle.tcc_reads.specs.History.{IsBySession, count};
@@ -9,7 +9,7 @@ ghost use Rattle.tcc_graph.specs.Keys.{keys, key_at, writers};
 ghost use Rattle.tcc_judge.specs.{declared.least.TheConstants.NONE, Orders.BreaksAxiom, private.Least.IsFoundFirst, private.Least.IsLeastOf, private.Positions.KeepsPairs, private.Decoding.AreFirsts, private.Decoding.IsOrdered};
 ghost use Rattle.tcc_judge.specs.private.Singles.{DoRise, IsBegin, IsInSession, IsSingle, IsSingleOf, IsSource, is_passed};
 
-use crate::behind::first_with;
+use crate::axiom_violation::first_with;
 use crate::decoding::firsts_of;
 use crate::least::NONE;
 use std::alloc::Global;
@@ -23,7 +23,7 @@ fn session_begin(graph: &LargeGraph, firsts: &[u32], reader: u32) -> u32
     requires reader { reader < count graph.now }
     ensures { IsBegin graph.now reader result }
 {
-    // each transaction is of a session, as this call says
+    // this call ensures that each transaction is of a session
     graph.sessions();
     match graph.at(reader) {
         Some((session, _place)) => firsts[session as usize],
@@ -31,7 +31,7 @@ fn session_begin(graph: &LargeGraph, firsts: &[u32], reader: u32) -> u32
     }
 }
 
-/// Whether a writer stands before a session, or in it, before the reader, and no later in the order than a position.
+/// Whether a writer is before a session, or in it, before the reader, and no later in the order than a position.
 fn is_passed(positions: &[u32], begin: u32, reader: u32, position: u32, writer: u32) -> bool
     requires { reader ≤ length positions.now }
     ensures { result ≡ is_passed positions.now begin reader position writer }
@@ -39,7 +39,7 @@ fn is_passed(positions: &[u32], begin: u32, reader: u32, position: u32, writer: 
     writer < begin || writer < reader && positions[writer as usize] <= position
 }
 
-/// The first of these writers in the reader's session, before it, that stands behind a position.
+/// The first of these writers in the reader's session, before it, that comes after a position.
 fn first_in_session(
     positions: &[u32],
     writers: &[u32],
@@ -70,7 +70,7 @@ fn is_among(numbers: &[u32], number: u32) -> bool
     numbers.binary_search(&number).is_ok()
 }
 
-/// The least source of the reader that is one of these writers and stands behind a position.
+/// The least source of the reader that is one of these writers and comes after a position.
 fn least_source(
     graph: &LargeGraph,
     positions: &[u32],
@@ -92,7 +92,7 @@ fn least_source(
     least
 }
 
-/// The least writer of a key that stands behind `a`, and from which a pair leads to `c`, whose session begins there.
+/// The least writer of a key that comes after `a`, and from which a pair leads to `c`, whose session begins there.
 fn least_writer(
     graph: &LargeGraph,
     positions: &[u32],
@@ -116,7 +116,7 @@ fn least_writer(
     first_in_session(positions, writers, begin, c, position).min(source)
 }
 
-/// The least transaction that stands behind `a`, and by one of its readings has to stand before it.
+/// The least transaction that comes after `a`, and by one of its readings has to come before it.
 fn least_single(graph: &LargeGraph, firsts: &[u32], positions: &[u32], a: u32) -> u32
     requires numbered { IsBySession graph.now.entries }
     requires firsts { AreFirsts graph.now firsts.now }
@@ -135,7 +135,7 @@ fn least_single(graph: &LargeGraph, firsts: &[u32], positions: &[u32], a: u32) -
     least
 }
 
-/// The first pair of a transaction and one that it has to stand before and doesn't, at `Atomic`.
+/// The first pair of a transaction and one that it has to come before and doesn't, at `Atomic`.
 pub(crate) fn first_single(
     alloc: Global,
     graph: &LargeGraph,

@@ -1,8 +1,8 @@
-//! The transactions that have to stand before one that stands before them in an order: by a pass forward along it for each block of
-//! 64 sessions, behind the pass back that tells to which of them something leads back. Of each key and each session of the block the
-//! last transaction is kept that reaches who reads the key from one of those passed; as the gap below the number that stands for
-//! none, since the table keeps the least. For N transactions, W writes, and R readings of those to which something leads back, that
-//! takes N + 64 R steps a block, and W more in all.
+//! The transactions that have to come before one that comes before them in an order. A pass goes forward along it for each block of 64
+//! sessions, after the pass back that finds to which of them something leads back. For each key and each session of the block it keeps the
+//! last transaction that reaches a reader of the key from one of those passed. It is kept as the gap below `NONE`, since the table keeps
+//! the least. Say there are N transactions, W writes, and R readings of those to which something leads back. Then this takes N + 64 R steps
+//! a block, and W more in all.
 ghost use Rattle.std.specs.Prelude.{◌≡◌, ◌<◌, ◌≤◌, ◌+◌, ◌⊎◌, ◌↔◌, ℕ, List, Bool, true, false, length, slice_index, slice_index_or, IsTrue, OnOk};
 ghost use Rattle.tcc_reads.specs.History.{count};
 ghost use Rattle.tcc_graph.specs.{Keys.keys, Tables.row_of};
@@ -17,7 +17,7 @@ use tcc_clocks::{SharedRows, WIDE};
 use tcc_graph::LargeGraph;
 use tcc_txn::NoMemory;
 
-/// How far a number is below the one that stands for none.
+/// How far a number is below `NONE`.
 fn gap_of(number: u32) -> u32
     ensures { result ≡ gap_of number }
 {
@@ -58,7 +58,7 @@ fn lower_readings(
     Ok(())
 }
 
-/// Whether a transaction writes a key whose gap of its session is no greater than its own.
+/// Whether a transaction writes a key whose gap for its session is no greater than its own.
 fn is_reaching(graph: &LargeGraph, gaps: &NextWriters, session: usize, b: u32) -> bool
     requires some { 0 < b }
     requires below { b < count graph.now }
@@ -94,8 +94,8 @@ fn mark_at(graph: &LargeGraph, block: &Block, gaps: &NextWriters, b: u32, marks:
     }
 }
 
-/// Marks the transactions of the block that have to stand before one that stands before them, and isn't `init`. Of each place the last
-/// one that has to stand before it and doesn't is known; 0 is none.
+/// Marks the transactions of the block that have to come before one that comes before them, and isn't `init`. For each place the last one
+/// that has to come before it and doesn't is given; 0 is none.
 pub(crate) fn mark_sources(
     graph: &LargeGraph,
     block: &Block,

@@ -1,6 +1,6 @@
-//! The links of a claim of version 3, judged as they come, so that neither they nor the steps of their walks need be held. Of the
-//! walk of the link that comes now it is known how many steps it has, and where they lead. For M links with W steps that takes 2 M + W
-//! questions of the graph at most, and room for one link without its walk.
+//! The links of a claim of version 3, judged as they are read, so that neither they nor the steps of their walks need be held. About the
+//! walk of the link that is being read it is known how many steps it has, and where they lead. For M links with W steps this asks at most 2
+//! M + W questions of the graph, and takes memory for one link without its walk.
 ghost use Rattle.std.specs.Prelude.{◌≡◌, ◌++◌, ◌∷◌, ◌↔◌, ℕ, List, [], All, IfOk, IfSome, IsTrue};
 ghost use Rattle.tcc_reads.specs.History.{count};
 ghost use Rattle.tcc_graph.specs.declared.{link.Link.Link, step.Step.Step};
@@ -19,7 +19,7 @@ use tcc_graph::{LargeGraph, Level, Link, Step};
 use tcc_rules::{KnownLink, KnownWalk, LinksJudge};
 use tcc_txn::NoMemory;
 
-/// Whether the numbers of some links, and those of one more, are below that of the transactions.
+/// Whether all numbers of some links, and those of one more, are below the number of transactions.
 fn are_links_below(graph: &LargeGraph, are_below: bool, head: &Link, walk: &KnownWalk) -> bool
     ensures { (from : ℕ) (steps : List Step) (links : List Link) → IsKnownWalk graph.now from steps walk.now
         → (IsTrue are_below ↔ All (IsLinkBelow (count graph.now)) links)
@@ -31,18 +31,18 @@ fn are_links_below(graph: &LargeGraph, are_below: bool, head: &Link, walk: &Know
     walk.is_link_below(graph, head)
 }
 
-/// The links of a claim that came so far, and the one whose steps come now.
+/// The links of a claim read so far, and the one whose steps are being read.
 #[derive(Drop)]
 pub struct TakenLinks<'a> {
     graph: &'a LargeGraph,
     level: Level,
     /// What they show.
     judge: LinksJudge,
-    /// Whether all their numbers are below that of the transactions.
+    /// Whether all their numbers are below the number of transactions.
     are_below: bool,
-    /// The link whose steps come now, without them.
+    /// The link whose steps are being read, without them.
     head: Option<Link>,
-    /// What is known of these steps.
+    /// What is known about these steps.
     walk: KnownWalk,
 }
 
@@ -123,7 +123,7 @@ fn has_head_sizes(
     }
 }
 
-/// What the rules say of a claim of a cycle whose links were taken.
+/// The verdict of the rules on a claim of a cycle whose links were read.
 fn judge_taken_cycle<P: Progress>(
     alloc: Global,
     graph: &LargeGraph,
@@ -150,8 +150,8 @@ fn judge_taken_cycle<P: Progress>(
     }
 }
 
-/// Judges a claim whose links were taken, as `judge` does one that is held: accepts it exactly where it keeps all rules for its
-/// kind and its level; otherwise names the first broken one and where.
+/// Judges a claim whose links were read, as `judge` does one that is held. It accepts the claim exactly where it keeps all rules for its
+/// kind and its level; otherwise it names the first broken one and where.
 pub fn judge_taken(
     alloc: Global,
     graph: &LargeGraph,
@@ -164,8 +164,8 @@ pub fn judge_taken(
     judge_taken_watched(alloc, graph, head, taken, &Unwatched)
 }
 
-/// As `judge_taken`, and `progress` is told how far this is where it goes by blocks of 64 sessions: of an order at `Causal`, and of
-/// runs beside links, how many blocks are done.
+/// As `judge_taken`, and `progress` is given the number of blocks of 64 sessions done where these are judged block by block: an order at
+/// `Causal`, and runs beside links.
 pub fn judge_taken_watched<P: Progress>(
     alloc: Global,
     graph: &LargeGraph,

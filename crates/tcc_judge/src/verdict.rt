@@ -1,32 +1,32 @@
-//! What is answered of a claim, and the rules that it names.
+//! The verdict on a claim, and the rules that it names.
 ghost use Rattle.std.specs.Prelude.{◌≡◌};
 ghost use Rattle.tcc_rules.specs.declared.verdict.Verdict.TheVariants as verdict;
 ghost use Rattle.tcc_judge.specs.Verdicts.{rule_number};
 
 use tcc_txn::NoMemory;
 
-/// The rules, in the order in which they are judged. Of a claim that runs tell a commit order the first and the last two are
-/// asked, of a claim of a cycle the first two, and where it is claimed to be a least one the first seven.
+/// The rules, in the order in which they are judged. For a claim that runs encode a commit order, the first and the last two are asked. For
+/// a claim of a cycle, the first two are asked, and where it is claimed to be a least one, the first seven.
 #[derive(Clone, Copy, Debug, PartialEq, Eq)]
 pub enum Rule {
-    /// The sizes are those of the history, no number is out of its range, and the runs of each session come to its size.
+    /// The sizes are those of the history, no number is out of its range, and the runs of each session match its size.
     Sizes = 1,
-    /// The links are those of the history at the level, one at least, close a cycle, and cost what is claimed.
+    /// The links are those of the history at the level, at least one, close a cycle, and cost what is claimed.
     Links,
-    /// No two pairs lead round, and where the cost is 4, no three.
+    /// No two pairs form a cycle; where the cost is 4, no three do.
     ShortPairs,
     /// Where the cost is 4, no derived link with a single pair as its walk leads back over a pair.
     ShortLinks,
-    /// Every reads-from pair is in order by the runs beside the cycle.
+    /// Every reads-from pair is in the order of the runs beside the cycle.
     Onward,
-    /// The cost, the transactions over which a derived link leads back in that order, those to which one does, those of the first that
-    /// are near, and the keys by which one leads into `init` are within their limits.
+    /// The cost and the keys by which a derived link leads into `init` are within their limits. So are the transactions from which a
+    /// derived link leads back in that order, those to which one does, and the near ones over which one does.
     Limits,
     /// No cycle costs less.
     Cheaper,
     /// Every reads-from pair is in order.
     Pairs,
-    /// What is contradicted stands behind what contradicts it.
+    /// What is contradicted comes after what contradicts it.
     Axiom,
 }
 
@@ -39,7 +39,7 @@ impl Rule {
     }
 }
 
-/// What the rules say of a claim.
+/// What the rules say about a claim.
 pub type Verdict = tcc_rules::Verdict<Rule>;
 
 /// A verdict, unless memory ran out.
@@ -52,7 +52,7 @@ pub(crate) fn rejected_at(rule: Rule, at: (u32, u32)) -> Verdict
     Verdict::Rejected { rule, at }
 }
 
-/// The verdict that this rule is the first broken one, of a rule that names nothing.
+/// The verdict that this rule is the first broken one, for a rule that names no place.
 pub(crate) fn rejected(rule: Rule) -> Verdict
     ensures { result ≡ verdict.Rejected rule (0, 0) }
 {

@@ -16,7 +16,7 @@ use Rattle.tcc_least.specs.Shapes.{NoneBelow}
 use Rattle.tcc_least.proofs.LeadingBack.{link_back}
 use Rattle.tcc_lanes.specs.Contradicted.{HasCheaper, IsAgainstRanks, IsRankSpanned, IsSpannedAside}
 
--- links up to one of them, and behind it
+-- the links before one of them, and those after it
 pub record Parted (links : List Link) (l : Link) : Type 0 where
   pub front : List Link
   pub behind : List Link
@@ -85,13 +85,13 @@ module _ (j : Judged) (rank : ℕ → ℕ) (rises : Rises j.history rank) where
       go (inr much) = much
       go (inl few) = absurd (by few (link_back j rank rises s links cycle))
 
-  -- one of the derived links leads down over a rank
+  -- one of the derived links leads down past a rank
   abbrev pub Crossed : List Link → ℕ → Type 0
   Crossed links q =
       (b : ℕ) × (a : ℕ) × (x : List ℕ) × (c : ℕ) × (walk : List Step) × Contains links (link.Derived b a x c walk) × IsReason j b a x c walk × (rank a ≤ q)
       × (q < rank b)
 
-  -- what leads down over it has one that does
+  -- links that lead down past it have one that does
   pub crossing : (u v q : ℕ) (links : List Link) → LinksLead j u v links → q < rank u → rank v ≤ q
       → Crossed links q
   crossing u v q [] lead high low = absurd (omega (arith, high, low, ap rank lead))

@@ -76,11 +76,11 @@ queued_one costs new buckets new_buckets member cost within is put = record {
         (put (get_or new v 0) v).1
         (inl (subst (λ (z : ℕ). Contains (row_of buckets z) v) (sym same) (q v (omega (arith, l, long)) (omega (arith, low, same)) (omega (arith, some, same)))))
 
--- where nothing costs anything, nobody has to be in a bucket
+-- where no member has a cost, none has to be in a bucket
 pub queued_none : (floor : ℕ) (costs : List ℕ) (buckets : List (List ℕ)) → ((v : ℕ) → v < length costs → get_or costs v 0 ≡ NONE) → AreQueued floor costs buckets
 queued_none floor costs buckets none v l low some = absurd (omega (arith, none v l, some))
 
--- the bucket of a level is taken out: those that cost more are in theirs
+-- the bucket of a level is taken out: the members that cost more are in their buckets
 pub queued_above : (level : ℕ) (costs : List ℕ) (buckets new_buckets : List (List ℕ)) → AreQueued level costs buckets → new_buckets ≡ set buckets level []
     → AreQueued (level + 1) costs new_buckets
 queued_above level costs buckets new_buckets q is v l low some =
@@ -89,7 +89,7 @@ queued_above level costs buckets new_buckets q is v l low some =
     = ap (λ (z : List (List ℕ)). row_of z (get_or costs v 0)) is ∙ get_or-set_other buckets level (get_or costs v 0) [] [] other in
     rw same (q v l (omega (arith, low)) some)
 
--- who is in a bucket then was in it
+-- a member of a bucket was in it before too
 pub was_in : (level : ℕ) (buckets new_buckets : List (List ℕ)) → new_buckets ≡ set buckets level [] → (k v : ℕ) → Contains (row_of new_buckets k) v
     → Contains (row_of buckets k) v
 was_in level buckets new_buckets is k v h = go (cases_eq k level) (cases_lt level (length buckets))
@@ -101,7 +101,7 @@ was_in level buckets new_buckets is k v h = go (cases_eq k level) (cases_lt leve
     go (inl same) (inr past) =
         absurd (nothing_in v (rw (same, get_or_past new_buckets level [] (omega (arith, past, ap length is, length-set buckets level []))) at h))
 
--- where there are no more buckets from a level on, nothing costs so much, but what costs nothing that counts
+-- where there are no buckets from a level on, a member whose cost is at least this level has none, and so none below a limit
 pub not_in_past : (level : ℕ) (costs : List ℕ) (buckets : List (List ℕ)) → AreQueued level costs buckets → length buckets ≤ level → (most : ℕ) → most ≤ NONE
     → (v : ℕ) → v < length costs → level ≤ get_or costs v 0 → most ≤ get_or costs v 0
 not_in_past level costs buckets q past most high v l more = go (cases_lt (get_or costs v 0) NONE)

@@ -16,7 +16,7 @@ way_first j members s costs = ([], refl, refl, omega arith)
 
 module _ (j : Judged) (members : List ℕ) (most : ℕ) (rows : List (List ℕ)) (are : ArePriceRows j members most (length members) rows)
     (s : ℕ) (costs : List ℕ) (high : most ≤ NONE) (low : get_or costs s 0 < most) where
-  -- a link more at the front, of a price that adds up
+  -- one more link at the front, whose price adds up
   longer : (from to : ℕ) (circle : List ℕ) → from < length members → to < length members → price_of rows from to ≤ get_or costs to 0
       → IsWayBack j members s costs to circle
       → (links : List Link) × LinksLead j (get_or members from 0) (get_or members s 0) links × (0 < length links)

@@ -30,7 +30,8 @@ offered_none Is rank prices lasts none = record {
   last = λ b a price is. absurd (none b a price is);
 }
 
--- what is meant in other words: each of the others is one of those, and each of those costs no less than one of the others
+-- the same for links that are described in another way: each of these is one of those, and each of those costs at least as much as one of
+-- these
 pub offered_as : (Is Other : ℕ → ℕ → ℕ → Type 0) (rank : ℕ → ℕ) (prices lasts new_prices new_lasts : List ℕ)
     → ((b a price : ℕ) → Is b a price → Other b a price) → ((b a price : ℕ) → Other b a price → (low : ℕ) × (low ≤ price) × Is b a low)
     → AreOffered Is rank prices lasts new_prices new_lasts → AreOffered Other rank prices lasts new_prices new_lasts

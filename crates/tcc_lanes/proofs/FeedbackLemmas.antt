@@ -128,7 +128,7 @@ module _ (j : Judged) (members : List ℕ) (most : ℕ) (high : most ≤ NONE) (
           by (inr low) = absurd (omega (arith, low))
 
 -- ---- marking
--- marked is each member to which a link from one of the first leads that doesn't lead to a lower number
+-- the marked members are those to which one of the first members has a link that doesn't lead to a lower number
 pub record AreMarkedTo (rows : List (List ℕ)) (number : ℕ → ℕ) (end : ℕ) (marks : List Bool) : Type 0 where
   pub long : length marks ≡ length rows
   pub within : end ≤ length rows
@@ -174,7 +174,7 @@ module _ (rows : List (List ℕ)) (number : ℕ → ℕ) where
   }
 
 -- ---- the least of some returns
--- rows that go up to a limit go up to a lower one
+-- price rows up to a limit are price rows up to a lower one
 pub rows_below : (j : Judged) (members : List ℕ) (most n end : ℕ) (rows : List (List ℕ)) → n ≤ most → ArePriceRows j members most end rows
     → ArePriceRows j members n end rows
 rows_below j members most n end rows below are = record {
@@ -192,7 +192,7 @@ rows_below j members most n end rows below are = record {
 return_below : (j : Judged) (members : List ℕ) (most n s : ℕ) → n ≤ most → HasReturn j members n s → HasReturn j members most s
 return_below j members most n s below (links, cycle, listed, few) = (links, cycle, listed, omega (arith, few, below))
 
--- no cycle from the first of the marked members costs less; and one from some member costs so much, unless that is the limit
+-- no cycle from the first of the marked members costs less; and a cycle from some member costs this much, unless it is the limit
 pub record IsLeastOf (j : Judged) (members : List ℕ) (most : ℕ) (marks : List Bool) (end : ℕ) (least : ℕ) : Type 0 where
   pub within : least ≤ most
   pub none : (s : ℕ) → s < end → IsMarked marks s → HasReturn j members least s → ⊥

@@ -38,7 +38,7 @@ joined_all h key_lanes key_indices v inside written n word all w = λ i l. (ther
         let (m, inside_m, here) = (written k within).1 is in
         (w i l).1 (m, omega (arith, inside_m, all), subst (λ (z : ℕ). IsAt key_lanes z i) (sym (get_or_default key_indices m 0 k inside_m ∙ here)) at)
 
--- ---- who writes them
+-- ---- the writers of the keys
 -- the transactions before `end` are marked with the lanes whose keys they write
 abbrev pub AreBegunTo : History → List ℕ → ℕ → List ℕ → Type 0
 AreBegunTo h key_lanes end begun =
@@ -71,7 +71,7 @@ begun_all h key_lanes end n begun all low w = record {
 }
 
 -- ---- where they are read from `init`
--- one of the first reads is no such read
+-- none of the first reads is such a read
 abbrev pub NoneRead : List ℕ → ℕ → List (ℕ × ℕ) → ℕ → Type 0
 NoneRead key_lanes word reads end =
     (n : ℕ) → n < end → (get_or reads n (0, 0)).1 ≡ 0 → (i : ℕ) → i < LANES → HasLane word i → IsAt key_lanes (get_or reads n (0, 0)).0 i → ⊥
@@ -176,7 +176,7 @@ module _ (j : Judged) (most longest : ℕ) (key_indices : List ℕ) (is : longes
             let back : from + (n - from) ≡ n = omega (arith, late) in
             none (n - from, within, subst (λ (z : ℕ). IsIntoInit j longest bound z) (sym (tiled.each (n - from) within ∙ ap (λ (m : ℕ). get_or key_indices m 0) back)) into)
 
-    -- the lowest of a tile, below one that was found before
+    -- the lowest of a tile, below the one found before
     pub here_comes : (low : ℕ) → (n : ℕ) × (n < length tile) × LeadsIntoInit j longest (slice_index tile n) low → ComesIntoInit j key_indices most low
     here_comes low (i, inside, into) =
         comes (from + i) low (omega (arith, inside, tiled.long)) (subst (λ (z : ℕ). LeadsIntoInit j longest z low) (tiled.each i inside) into)
@@ -198,7 +198,7 @@ module _ (j : Judged) (most longest : ℕ) (key_indices : List ℕ) (is : longes
 pub none_before : (j : Judged) (longest bound lower : ℕ) (key_indices : List ℕ) (end : ℕ) → lower ≤ bound → NoneTo j longest bound key_indices end → NoneTo j longest lower key_indices end
 none_before j longest bound lower key_indices end less none n early inside (b, low, into) = none n early inside (b, omega (arith, low, less), into)
 
--- none of the first keys leads there from before low; and low is the end of all, or comes so
+-- none of the first keys leads there from before low; and low is the end of all, or leads there
 pub record IsLowestTo (j : Judged) (most longest : ℕ) (key_indices : List ℕ) (end low : ℕ) : Type 0 where
   pub some : 0 < low
   pub within : low ≤ count j.history
@@ -233,7 +233,7 @@ module _ (j : Judged) (most longest : ℕ) (key_indices : List ℕ) (is : longes
     lowest_missed whole = none_left j most longest key_indices is low end whole all w.none
 
 -- ---- halving
--- none leads there from before low, and one does from before high, which comes nearer with each turn
+-- none leads there from before low, and one does from before high; the two come nearer with each turn
 pub record AreHalved (j : Judged) (most end : ℕ) (key_indices : List ℕ) (turn low high : ℕ) : Type 0 where
   pub some : 0 < low
   pub apart : low < high
@@ -277,7 +277,7 @@ module _ (j : Judged) (most end : ℕ) (key_indices : List ℕ) (turn low high m
   halved_up none = record { some = omega (arith, l); apart = m; within = w.within; near = omega (arith, l, m, w.near); none = none; has = w.has }
 
 -- ---- halving of costs
--- nothing costs less than low, something less than high, and these come nearer with each turn
+-- nothing costs less than low, and something costs less than high; the two come nearer with each turn
 pub record AreCostsHalved (Has : ℕ → Type 0) (most turn low high : ℕ) : Type 0 where
   pub apart : low < high
   pub within : high ≤ most
@@ -285,7 +285,7 @@ pub record AreCostsHalved (Has : ℕ → Type 0) (most turn low high : ℕ) : Ty
   pub none : Has low → ⊥
   pub has : Has high
 
--- nothing costs less than nothing
+-- nothing costs less than 0
 pub costs_halving : (j : Judged) (most : ℕ) (key_indices : List ℕ) → HasCheaperIntoInit j key_indices most
     → AreCostsHalved (HasCheaperIntoInit j key_indices) most 0 0 most
 costs_halving j most key_indices (b, (k, c, walk, there, reason, few)) = record {

@@ -24,7 +24,7 @@ use Rattle.tcc_lanes.specs.private.Pricing.{IsLowered}
 use Rattle.tcc_lanes.proofs.Walked.{last_pair, one_allowed}
 
 -- ---- the sources
--- the least of what the sources of the first reads have
+-- the least of the values at the sources of the first reads
 abbrev pub IsLeastIn : (ℕ → ℕ) → List (ℕ × ℕ) → ℕ → ℕ → Type 0
 IsLeastIn steps reads end least =
     ((n : ℕ) → n < end → least ≤ steps (get_or reads n (0, 0)).1)
@@ -66,7 +66,7 @@ module _ (steps : ℕ → ℕ) (reads : List (ℕ × ℕ)) where
           inr (read.1, (key_at h read.0, is_read h v reads are read (n, omega (arith, l, all), get_or_default reads n read (0, 0) (omega (arith, l, all))) inside), here)
 
 -- ---- one sweep
--- what stands where the transactions before v are done; in the run are those before v - 1 in session order
+-- the lengths after the transactions before v are done; the run has those before v - 1 in session order
 pub record AreSwept (j : Judged) (b : ℕ) (most : ℕ) (old : List ℕ) (v : ℕ) (run : ℕ) (new : List ℕ) : Type 0 where
   pub same : length new ≡ length old
   pub kept : (u : ℕ) → get_or new u 0 ≤ get_or old u 0
@@ -107,7 +107,7 @@ module _ (h : History) (l : Level) (b most : ℕ) (numbered : IsBySession h.entr
       go level.Atomic (inl here) = rw (eq-eqb u b here) refl
       go level.Atomic (inr apart) = rw (ne_eqb u b apart) refl
 
-  -- a pair more from where so many steps lead
+  -- one more pair, from a transaction to which this many steps lead
   on : (l : Level) (new : List ℕ) → AreAttained (judged h l) b most new → (u v : ℕ) → b < count h → IsCausalPair h u v → steps_at l b new u < NO_WALK
       → (walk : List Step) × IsAllowedWalk (judged h l) b v walk × (length walk ≤ steps_at l b new u + 1)
   on l new w u v inside pair low = go l w low (cases_eq u b)
@@ -125,7 +125,7 @@ module _ (h : History) (l : Level) (b most : ℕ) (numbered : IsBySession h.entr
       go level.Atomic w low (inr other) =
           let is : steps_at level.Atomic b new u ≡ NO_WALK = rw (ne_eqb u b other) refl in absurd (omega (arith, low, is))
 
-  -- the run goes on
+  -- the run is continued
   module _ (v run : ℕ) (new : List ℕ) (below : v < count h) (w : AreSwept j b most old v run new) where
     abbrev run_here : ℕ
     run_here = least_on l b parents new run v
@@ -280,7 +280,7 @@ module _ (h : History) (l : Level) (b most : ℕ) (numbered : IsBySession h.entr
   }
 
 -- ---- sweep after sweep
--- what stands after so many sweeps
+-- the lengths after n sweeps
 pub record AreMeasured (j : Judged) (b : ℕ) (most : ℕ) (n : ℕ) (lengths : List ℕ) : Type 0 where
   pub long : length lengths ≡ count j.history
   pub high : (v : ℕ) → v < count j.history → get_or lengths v 0 ≤ NO_WALK
@@ -299,7 +299,7 @@ module _ (h : History) (b most : ℕ) where
       all_none : (v : ℕ) → v < count h → get_or (replicate n NO_WALK) v 0 ≡ NO_WALK
       all_none v m = get_or-replicate {A = ℕ} n v NO_WALK 0 (omega (arith, m, is))
 
-  -- so many steps lead to where a walk's last pair begins
+  -- this many steps lead to the transaction at which a walk's last pair begins
   came : (l : Level) (lengths : List ℕ) (n : ℕ)
       → ((v : ℕ) (walk : List Step) → v < count h → IsAllowedWalk (judged h l) b v walk → length walk ≤ n → length walk ≤ most → get_or lengths v 0 ≤ length walk)
       → (v : ℕ) (walk : List Step) → IsAllowedWalk (judged h l) b v walk → length walk ≤ n + 1 → length walk ≤ most

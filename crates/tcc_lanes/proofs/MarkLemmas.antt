@@ -14,7 +14,7 @@ use Rattle.tcc_lanes.specs.declared.words.TheConstants.{LANES}
 use Rattle.tcc_lanes.specs.private.Marks.{HasLane, IsAt, AreMarksOf, AreWriterMarks}
 use Rattle.tcc_lanes.proofs.WordLemmas.{none_has}
 
--- ---- one mark more
+-- ---- one more mark
 pub marked_at : (marks : List ℕ) (index lane word : ℕ) → index < length marks
     → ((i : ℕ) → i < LANES → HasLane word i ↔ (HasLane (get_or marks index 0) i ⊎ (i ≡ lane)))
     → (v i : ℕ) → i < LANES → IsAt (set marks index word) v i ↔ (IsAt marks v i ⊎ ((v ≡ index) × (i ≡ lane)))

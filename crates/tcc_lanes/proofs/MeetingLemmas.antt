@@ -8,7 +8,7 @@ use Rattle.std.proofs.lemmas.List.Elements.{Contains-get_or}
 use Rattle.tcc_reads.specs.History.{History, count}
 use Rattle.tcc_graph.specs.Keys.{key_at}
 use Rattle.tcc_least.proofs.ReadLemmas.{AreReadsAt, is_read, read_is}
-use Rattle.tcc_lanes.specs.declared.meeting.TheConstants.{NO_COLUMN}
+use Rattle.tcc_lanes.specs.declared.hits.TheConstants.{NO_COLUMN}
 use Rattle.tcc_lanes.specs.declared.words.TheConstants.{LANES}
 use Rattle.tcc_lanes.specs.private.Marks.{HasLane, IsAt}
 use Rattle.tcc_lanes.specs.private.Pricing.{AreColumns, IsMetAt, IsMetIn}
@@ -16,18 +16,18 @@ use Rattle.tcc_lanes.proofs.Grown.{OneBelow, grown_more, grown_none, grown_same,
 use Rattle.tcc_lanes.proofs.MarkLemmas.{key_of_read}
 use Rattle.tcc_lanes.proofs.WordLemmas.{both_have, either_has}
 
--- ---- what ascends below a number
+-- ---- lists that ascend below a number
 ascending_at : (xs : List ℕ) → AllPairs (λ u v. u < v) xs → (k : ℕ) → k < length xs → k ≤ get_or xs k 0
 ascending_at xs up zero inside = omega arith
 ascending_at xs up (suc k) inside = omega (arith, ascending_at xs up k (omega (arith, inside)), up k (suc k) 0 (omega arith) inside)
 
--- has no more items than that
+-- an ascending list of numbers below n has at most n items
 pub ascending_few : (xs : List ℕ) (n : ℕ) → AllPairs (λ u v. u < v) xs → All (λ v. v < n) xs → length xs ≤ n
 ascending_few [] n up below = omega arith
 ascending_few (x ∷ xs) n up below = omega (arith, ascending_at (x ∷ xs) up (length xs) (omega arith), below (length xs) 0 (omega arith))
 
 -- ---- columns
--- those of the first members
+-- the columns of the first members
 abbrev pub AreColumnsTo : History → List ℕ → ℕ → List ℕ → Type 0
 AreColumnsTo h members end columns =
     (length columns ≡ count h)
@@ -79,12 +79,12 @@ columns_all h members columns n all w = record {
 }
 
 -- ---- the reads of a reader
--- by this read the lane is met at the column of a member
+-- this read meets the lane at the column of a member
 abbrev pub IsMetBy : List ℕ → List ℕ → ℕ → List (ℕ × ℕ) → ℕ → ℕ → ℕ → Type 0
 IsMetBy columns writers word reads v i n =
     (get_or columns (get_or reads n (0, 0)).1 0 ≡ v) × HasLane (bit_and word (get_or writers (get_or reads n (0, 0)).0 0)) i
 
--- lanes were added that are meant, and no others
+-- the lanes that are meant were added, and no others
 abbrev pub AreGrown : List ℕ → List ℕ → (ℕ → ℕ → Type 0) → Type 0
 AreGrown old new Is = (length new ≡ length old) × ((v i : ℕ) → v < length old → i < LANES → IsAt new v i ↔ (IsAt old v i ⊎ Is v i))
 

@@ -37,7 +37,7 @@ module _ (j : Judged) (rank : ℕ → ℕ) (rises : Rises j.history rank) where
       go (inl up) = inl up
       go (inr down) = inr (b, a, x, c, walk, refl, record { reason = is; back = down })
 
-  -- links up to the first that leads back, and behind it
+  -- the links before the first one that leads back, and those after it
   record First (v : ℕ) (w : ℕ) (links : List Link) : Type 0 where
     front : List Link
     b : ℕ
@@ -89,7 +89,7 @@ module _ (j : Judged) (rank : ℕ → ℕ) (rises : Rises j.history rank) where
         goes = subst (λ (m : Link). LinksLead j (link_to m) w links) same later;
       }
 
-  -- links up to the last that leads back, this one with them, and behind it
+  -- the links up to the last one that leads back, with it, and those after it
   record Last (v : ℕ) (w : ℕ) (links : List Link) : Type 0 where
     early : List Link
     b : ℕ
@@ -151,7 +151,7 @@ module _ (j : Judged) (rank : ℕ → ℕ) (rises : Rises j.history rank) where
 
   -- a cycle that costs less, and never comes to `init`
   module _ (most : ℕ) (v : ℕ) (links : List Link) (cycle : IsCycle j v links) (never : (l : Link) → Contains links l → link_to l ≢ 0) (few : cost links < most) where
-    -- there is another link beside a derived one
+    -- a cycle has another link besides a derived one
     short : (b a : ℕ) (x : List ℕ) (c : ℕ) (walk : List Step) → Contains links (link.Derived b a x c walk) → IsBack b a x c walk → length walk + 1 + 1 < most
     short b a x c walk there back = go p.front p.behind p.is
       where
@@ -184,7 +184,7 @@ module _ (j : Judged) (rank : ℕ → ℕ) (rises : Rises j.history rank) where
       short = short b a x c walk there back;
     }
 
-    -- what leads down over a rank has a link of the cycle that does
+    -- links that lead down past a rank have a link of the cycle that does
     over : (u w at : ℕ) (some : List Link) → ((l : Link) → Contains some l → Contains links l) → LinksLead j u w some → at < rank u → rank w ≤ at
         → IsOver j rank most at
     over u w at some those lead high low =
@@ -246,7 +246,7 @@ module _ (j : Judged) (rank : ℕ → ℕ) (rises : Rises j.history rank) where
                 onward v f.b f.front f.comes f.climbs
                 (λ at low high. over f.b v at (derived ∷ f.rest) in_late (refl, f.back.reason, f.goes) high low)
 
-            -- by what leads on from the first link back to where the last one ends, and forward from there
+            -- by the links from the first one that leads back to where the last one ends, and those forward from there
             found : (early behind : List Link) (u : ℕ) → f.rest ≡ early ++ behind → LinksLead j f.a u early → ((b : ℕ) × (price : ℕ) × IsClosing j rank most b u price)
                 → LinksLead j u v behind → Climbs behind → IsNear j rank most v
             found early behind u is comes ended goes climbs = record {

@@ -1,4 +1,4 @@
--- Which transactions are near, by what was found of the links that lead back.
+-- Which transactions are near, by what was found about the links that lead back.
 use Rattle.std.proofs.Common.{◌≡◌, ◌≢◌, ◌<◌, ◌≤◌, ◌+◌, ◌⊎◌, ◌↔◌, inl, inr, ℕ, Bool, true, false, cond, List, [], ◌∷◌, ◌++◌, length, length-append, get_or, set, replicate, refl, sym, ap, subst, ◌∙◌, arith}
 use Rattle.std.proofs.lemmas.Bool.{cases_Bool, cases_eq, cases_lt}
 use Rattle.std.proofs.lemmas.List.{get_or-replicate, get_or-set_other, get_or-set_same, get_or_append_left, get_or_at, get_or_default, get_or_past, length-replicate, length-set}
@@ -123,7 +123,7 @@ module _ (j : Judged) (order positions : List ℕ) (places : ArePlaces (count j.
       let below : get_or order place 0 < count j.history = below_in places.numbering place inside in
       one_index places.numbering (rank (get_or order place 0)) place (places.within (get_or order place 0) below) inside (places.here (get_or order place 0) below)
 
-  -- all but `init` stand behind the first place
+  -- all but `init` come after the first place
   rank_some : (v : ℕ) → v < count j.history → v ≢ 0 → 0 < rank v
   rank_some v below other = go (cases_eq (rank v) 0)
     where

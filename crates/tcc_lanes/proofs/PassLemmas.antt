@@ -1,4 +1,4 @@
--- The passes along an order, one place more each time.
+-- The passes along an order, one place at a time.
 use Rattle.std.proofs.Common.{◌≡◌, ◌≢◌, ◌<◌, ◌≤◌, ◌+◌, ◌⊎◌, ◌↔◌, inl, inr, ℕ, Bool, true, false, List, [], ◌∷◌, ◌++◌, length, length-append, get_or, set, refl, sym, ap, subst, ◌∙◌, arith}
 use Rattle.std.specs.Prelude.{max, min, nat_lt, ◌&&◌, ◌||◌}
 use Rattle.std.proofs.lemmas.Bool.{and_from, and_parts, cases_eq, cases_lt, false≢true, lt-ltb, ltb-true, or_cases, or_left, or_right}
@@ -6,7 +6,7 @@ use Rattle.std.proofs.lemmas.List.{get_or_append_left, get_or_at, get_or-set_sam
 use Rattle.tcc_lanes.specs.declared.pricing.TheConstants.{NONE}
 use Rattle.tcc_lanes.specs.private.Passes.{AreAllCovered, AreBeyond, AreCovered, AreReachedOn, IsBeyond, IsCovered, IsLeastPrice, IsReachedOn, last_at, price_at}
 
--- ---- one answer more
+-- ---- one more answer
 module _ (Is : ℕ → Type 0) (end : ℕ) (list : List Bool) (long : length list ≡ end) (one : Bool) where
   pub told_long : length (list ++ one ∷ []) ≡ end + 1
   told_long = omega (arith, length-append list (one ∷ []), long)
@@ -118,7 +118,7 @@ module _ (order lasts : List ℕ) where
             go (inl same) = or_right here ends (lt-ltb 0 (last_at order lasts place) (subst (λ (z : ℕ). 0 < last_at order lasts z) same ended))
             go (inr other) = or_left here ends (w.here_is.1 (i, omega (arith, less, other), ended, λ at low high. all at low (omega (arith, high))))
 
--- ---- what begins behind
+-- ---- the links that begin at a later place
 pub least_price_as : (Is Other : ℕ → Type 0) (least : ℕ) → ((price : ℕ) → Is price → Other price) → ((price : ℕ) → Other price → Is price) → IsLeastPrice Is least
     → IsLeastPrice Other least
 least_price_as Is Other least there back w = record { high = w.high; attained = go w.attained; lowest = λ price is. w.lowest price (back price is) }
@@ -128,7 +128,7 @@ least_price_as Is Other least there back w = record { high = w.high; attained = 
     go (inr is) = inr (there least is)
 
 module _ (order prices : List ℕ) (covered : List Bool) where
-  -- one of them begins, at this price, at a place from one on up to which each place is covered
+  -- one of them begins at this price, at a place from this one on, and each place up to there is covered
   abbrev pub IsFrom : ℕ → ℕ → Type 0
   IsFrom place price = (k : ℕ) × (place ≤ k) × (k < length order) × AreAllCovered covered place k × (price_at order prices k ≡ price)
 

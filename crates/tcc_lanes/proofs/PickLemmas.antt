@@ -38,7 +38,7 @@ module _ (j : Judged) (members : List ℕ) (n most : ℕ) (limit : most ≡ n + 
   low : get_or costs s 0 < most
   low = returned j members most rows are s inside ascending level costs far w has
 
-  -- it costs just n to come back
+  -- the way back costs exactly n
   pub exact : get_or costs s 0 ≡ n
   exact = let (links, route, listed, cheap) = w.sound s inside (omega (arith, low, high)) in omega (arith, every.none start links route, cheap, low, limit)
 
@@ -89,7 +89,7 @@ module _ (j : Judged) (members : List ℕ) (n most : ℕ) (limit : most ≡ n + 
               (omega (arith, cost_cons l (closing ++ front), cost_append closing front, costs_q, sum, way.back.2)),
         )
 
-    -- a link of no more than is left, with a way before it of no more than it leaves
+    -- a link that costs at most what is left, after a way that costs at most the rest
     last_at : (l : Link) (front : List Link) → link_to l ≡ v → IsLink j l → LinksLead j start (link_from l) front → cost front + link_cost l ≤ left
         → cost front + link_cost l ≡ left
     last_at l front ends is lead few = omega (arith, few, every.none start (front ++ l ∷ closing) (closed front l lead is ends), costs_so front l, way.back.2)
@@ -199,7 +199,7 @@ module _ (j : Judged) (members : List ℕ) (n most : ℕ) (limit : most ≡ n + 
             (link_cost one.0, record { last = last_link; lowest = lower }, (get_or costs from 0, rest_of, is)));
       }
 
-    -- or from the start at once
+    -- or directly from the start
     pub way_done : price_of rows s to ≡ left → ArePicked j start start n (picks ++ start ∷ [])
     way_done direct = way.picked (start ∷ []) (link_cost l, record { last = last; lowest = λ z p other. above z p other }, (0, omega (arith, costs_l), (refl, refl)))
       where
@@ -215,7 +215,7 @@ module _ (j : Judged) (members : List ℕ) (n most : ℕ) (limit : most ≡ n + 
         last : IsLastAt j start v left start (link_cost l)
         last = record { link = (l, one.1, one.2, one.3, refl); way = ([], refl, omega (arith, costs_l)) }
 
--- where no cycle returns to a member before, none that costs n starts below this one
+-- where no cycle returns to an earlier member, no cycle that costs n starts below this one
 pub lowest_start : (j : Judged) (members : List ℕ) (n most : ℕ) → most ≡ n + 1 → AllPairs (λ u v. u < v) members → (s : ℕ)
     → ((t : ℕ) → t < s → t < length members → HasReturn j members most t → ⊥) → HasAllAmong j members n → IsLowestStart j n (get_or members s 0)
 lowest_start j members n most limit ascending s none every t [] cycle costs = absurd (omega (arith, cycle.0))

@@ -21,13 +21,13 @@ use Rattle.tcc_lanes.specs.private.Pricing.{AreColumns, AreMarked, ArePrices, Is
 use Rattle.tcc_lanes.proofs.Walked.{none_walked, still_walked, walked_more}
 use Rattle.tcc_lanes.proofs.WordLemmas.{zeros_nowhere}
 
--- a lane has come, in so many steps at most, to a reader of what its start writes, which reads it from the member of a column
+-- a lane has come, in at most this many steps, to a reader of a key that its start writes; the reader reads it from the member of a column
 abbrev pub IsFound : Judged → List ℕ → List ℕ → ℕ → ℕ → ℕ → Type 0
 IsFound j members starts n v i =
     (i < length starts) × (x : List ℕ) × (c : ℕ) × (walk : List Step) × IsReadsPair j.history (get_or members v 0) c x × IsWriter j.history (get_or starts i 0) x
     × IsAllowedWalk j (get_or starts i 0) c walk × (length walk ≤ n)
 
--- what stands when so many steps were taken
+-- the prices after walks of this many steps
 pub record IsPricing (h : History) (level : Level) (members : List ℕ) (starts : List ℕ) (begun : List ℕ) (n : ℕ) (reached : List ℕ) (underway : List ℕ)
     (found : List ℕ) (table : List ℕ) : Type 0 where
   pub long : length reached ≡ count h
@@ -175,12 +175,12 @@ module _ (h : History) (level : Level) (members starts begun : List ℕ) (lanes 
         found_now : (v i : ℕ) → v < length members → i < LANES → IsAt met v i ↔ IsFound j members starts (n + 1) v i
         found_now = found_more after found met walked w.each (λ v i l m. grown v i (omega (arith, l, w.columns)) m)
 
-  -- where one pair more leads to nothing new, these are the prices of longer walks too
+  -- where one more pair leads to nothing new, these are the prices of longer walks too
   module _ (inside : All (λ u. u < count h) starts) (marks : AreMarksOf (count h) starts (length starts) begun) (n longest : ℕ) (up : n ≤ longest)
       (reached underway found table after : List ℕ) (w : IsPricing h level members starts begun n reached underway found table)
       (still : (v : ℕ) → v < count h → get_or after v 0 ≡ get_or reached v 0)
       (each : (v i : ℕ) → v < count h → i < LANES → IsAt after v i ↔ IsWalkedOn h level begun reached v i) where
-    -- a walk is no longer than n steps, or one of so many leads where it does
+    -- no price exceeds that of a walk, whether it has more than n steps or not
     cheap_at : (v i : ℕ) → v < length members → i < length starts → (x : List ℕ) (c : ℕ) (walk : List Step)
         → IsReason j (get_or starts i 0) (get_or members v 0) x c walk → length walk ≤ longest → (n < length walk) ⊎ (length walk ≤ n)
         → get_or table (cell v i) 0 ≤ length walk + 1

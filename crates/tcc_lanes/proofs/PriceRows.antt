@@ -91,7 +91,7 @@ module _ (h : History) (level : Level) (members starts table : List ℕ) (longes
     pub row_of : IsPriceRow j members most from row
     row_of = record { long = w.long; some = some; high = high; sound = sound; all = all }
 
-  -- ---- a tile of rows more
+  -- ---- one more tile of rows
   pub rows_more : (first last : ℕ) → IsTile members first last starts → first ≤ length members → first ≤ last → (old new : List (List ℕ)) → ArePriceRows j members most first old
       → AreRowsOn h members table starts (length starts) old new → ArePriceRows j members most last new
   rows_more first last tiled within order old new w on = record {
@@ -137,7 +137,7 @@ module _ (h : History) (members table starts : List ℕ) (old : List (List ℕ))
           subst (λ (r : List ℕ). IsRowOf h members table i (get_or starts i 0) r) (sym (get_or_append_left mid (row ∷ []) [] (length old + i) (omega (arith, less, w.long))))
           (w.each i less)
 
--- ---- a price more
+-- ---- one more price
 pub one_price_more : (price : ℕ → ℕ) (row : List ℕ) (k new : ℕ) → length row ≡ k → ((v : ℕ) → v < k → get_or row v 0 ≡ price v) → new ≡ price k
     → (v : ℕ) → v < k + 1 → get_or (row ++ new ∷ []) v 0 ≡ price v
 one_price_more price row k new long w is v l = go (cases_eq v k)

@@ -33,7 +33,7 @@ module _ (rows : List (List ℕ)) (table : IsTable rows) (level : ℕ) (old : Li
   settled_none Is none = record { same = refl; kept = λ v l. omega arith; either = λ v l. inl refl; over = λ u v is. absurd (none u is) }
 
   module _ (Is More : ℕ → Type 0) (n : ℕ) (one : (u : ℕ) → More u → Is u ⊎ (u ≡ n)) (mid : List ℕ) (w : IsSettled rows level Is old mid) where
-    -- what costs so much has done so before
+    -- a member with this cost had it before
     still : (u : ℕ) → u < length old → get_or mid u 0 ≡ level → get_or old u 0 ≡ level
     still u l is = go (w.either u l)
       where
@@ -41,7 +41,7 @@ module _ (rows : List (List ℕ)) (table : IsTable rows) (level : ℕ) (old : Li
         go (inl stays) = sym stays ∙ is
         go (inr (t, inside, at, over)) = absurd (omega (arith, is, over, table.some t u (omega (arith, inside, same)) (omega (arith, l, same))))
 
-    -- a cost of this level has it from then on
+    -- a member that had this cost still has it
     yet : (u : ℕ) → u < length old → get_or old u 0 ≡ level → get_or mid u 0 ≡ level
     yet u l is = go (w.either u l)
       where
@@ -157,7 +157,7 @@ module _ (j : Judged) (members : List ℕ) (most : ℕ) (rows : List (List ℕ))
         over u v l m low (inr other) (inl stays) =
             omega (arith, stays, w.over u v l m (omega (arith, low, stays, other)), settled.kept v (here v m))
 
-    -- where nothing costs more, up to a limit, all is settled up to there
+    -- where no cost is between a level and a later one, costs that are settled below the first are settled below the second
     pub reached_on : (level next : ℕ) (costs : List ℕ) → ((v : ℕ) → v < length costs → level ≤ get_or costs v 0 → next ≤ get_or costs v 0)
         → IsReached j members rows s level costs → IsReached j members rows s next costs
     reached_on level next costs above w = record {
@@ -172,7 +172,7 @@ module _ (j : Judged) (members : List ℕ) (most : ℕ) (rows : List (List ℕ))
         below u l low (inr more) = absurd (omega (arith, low, above u (omega (arith, l, w.same)) more))
 
     module _ (ascending : AllPairs (λ u v. u < v) members) (level : ℕ) (costs : List ℕ) (far : most ≤ level + 1) (w : IsReached j members rows s level costs) where
-      -- what leads on to a member costs no more than was found
+      -- the links that lead on to a member cost at least what was found
       onward : (t u : ℕ) (links : List Link) → t < length members → u < length members → LinksLead j (get_or members u 0) (get_or members t 0) links
           → All (IsAmong members) links → get_or costs u 0 + cost links < most → get_or costs t 0 ≤ get_or costs u 0 + cost links
       onward t u [] m l lead listed few = subst (λ (z : ℕ). get_or costs z 0 ≤ get_or costs u 0 + cost []) (once members ascending u t l m lead) (omega arith)
@@ -191,7 +191,7 @@ module _ (j : Judged) (members : List ℕ) (most : ℕ) (rows : List (List ℕ))
               later v within (subst (λ (z : ℕ). LinksLead j z (get_or members t 0) links) (sym to) rest) (omega (arith, step, cheap, few, cost_cons one links)) in
               omega (arith, back, step, cheap, cost_cons one links)
 
-      -- and what leads there from the start
+      -- and so do the links that lead there from the start
       pub come_to : (t : ℕ) (links : List Link) → t < length members → 0 < length links → LinksLead j (get_or members s 0) (get_or members t 0) links
           → All (IsAmong members) links → cost links < most → get_or costs t 0 ≤ cost links
       come_to t [] m some lead listed few = absurd (omega (arith, some))
@@ -238,7 +238,7 @@ module _ (j : Judged) (members : List ℕ) (most : ℕ) (rows : List (List ℕ))
           none s (omega (arith, within, all)) within (one ∷ links, subst (λ (z : ℕ). IsCycle j z (one ∷ links)) (sym from) cycle, listed, few)
 
 -- ---- before anything is settled
--- lowered by a row alone, all costs are those of the row
+-- costs that were lowered by one row only are those of the row
 pub costs_of_row : (row costs new : List ℕ) (n : ℕ) → costs ≡ replicate n NONE → length row ≡ n → length new ≡ length costs
     → ((v : ℕ) → v < n → get_or row v 0 ≤ NONE) → ((v : ℕ) → v < length costs → get_or new v 0 ≡ min (get_or costs v 0) (0 + get_or row v 0)) → new ≡ row
 costs_of_row row costs new n is long same high each = ext_get_or 0 new row (omega (arith, same, wide, long)) at

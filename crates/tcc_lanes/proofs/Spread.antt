@@ -35,7 +35,7 @@ in_all h marks v reads are below k word all w = λ i l. (there i l, back i l)
         (w i l).1 (n, omega (arith, inside, all), subst (λ (z : ℕ). IsAt marks z i) (sym here) at)
 
 -- ---- the run along a session
--- the word of the number before, where there is one
+-- the word of the previous index, where there is one
 abbrev pub IsRunBefore : History → List ℕ → ℕ → ℕ → Type 0
 IsRunBefore h marks v run = 0 < v → IsRun h marks (v - 1) run
 
@@ -94,7 +94,7 @@ module _ (h : History) (numbered : IsBySession h.entries) (parents : List ℕ) (
       go (inr other) (inl none) = rw (ne_eqb v 0 other, eq-eqb (get_or parents v 0) 0 none) (only_init other none)
       go (inr other) (inr some) = rw (ne_eqb v 0 other, ne_eqb (get_or parents v 0) 0 some) (on other some)
 
-  -- ---- one transaction more
+  -- ---- one more transaction
   pub spread_more : (v run word : ℕ) (found : List ℕ) → v < count h → ((i : ℕ) → i < LANES → HasLane word i ↔ IsReadFrom h marks v i) → IsSpreadTo h marks v run found
       → IsSpreadTo h marks (v + 1) (run_on parents marks run v) (set found v (bit_or (run_on parents marks run v) word))
   spread_more v run word found below read w = record {
@@ -131,7 +131,7 @@ module _ (h : History) (numbered : IsBySession h.entries) (parents : List ℕ) (
       each u i less l (inr other) = rw (get_or-set_other found v u (bit_or now word) 0 other) (w.each u i (omega (arith, less, other)) l)
 
 -- ---- whether anything is new
--- where nothing is said to be new, the first words are what they were; the others are what they were in any case
+-- where nothing is reported as new, the first words are unchanged; the others are unchanged in any case
 pub record IsStillTo (old : List ℕ) (end : ℕ) (is_new : Bool) (found : List ℕ) : Type 0 where
   pub same : is_new ≡ false → (k : ℕ) → k < end → get_or found k 0 ≡ get_or old k 0
   pub rest : (k : ℕ) → end ≤ k → get_or found k 0 ≡ get_or old k 0

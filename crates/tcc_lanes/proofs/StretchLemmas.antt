@@ -9,7 +9,7 @@ use Rattle.tcc_lanes.specs.private.Stretches.{prices_in, prices_of}
 abbrev none : Stretch
 none = record { columns = 0; price = 0 }
 
--- ---- one column more
+-- ---- one more column
 one_more : (c p : ℕ) → replicate (c + 1) p ++ [] ≡ (replicate c p ++ []) ++ p ∷ []
 one_more c p =
     append-nil (replicate (c + 1) p) ∙ (sym (replicate-append-replicate c 1 p) ∙ ap (λ (l : List ℕ). l ++ p ∷ []) (sym (append-nil (replicate c p))))
@@ -82,7 +82,7 @@ pub left_none : (row : List ℕ) (column : ℕ) (stretches : List Stretch) (k le
 left_none row column stretches k left past w =
     let few : left < length (prices_in []) = subst (λ (z : List Stretch). left < length (prices_in z)) (drop_all k stretches past) w.within in omega (arith, few)
 
--- ---- where a stretch stands in a row
+-- ---- where a stretch is in a row
 pub record IsPlaced (row : List ℕ) (stretches : List Stretch) (k : ℕ) (from : ℕ) : Type 0 where
   pub ends : from + length (prices_in (drop k stretches)) ≡ length row
   pub at : (i : ℕ) → get_or (prices_in (drop k stretches)) i 0 ≡ get_or row (from + i) 0

@@ -1,4 +1,4 @@
--- Walks, one pair longer each time.
+-- Walks, longer by one pair each time.
 use Rattle.std.proofs.Common.{◌≡◌, ◌<◌, ◌≤◌, ◌+◌, ◌-◌, ◌↔◌, ◌⊎◌, inl, inr, ℕ, suc, zero, List, get_or, [], ◌∷◌, length, replicate, refl, sym, subst, arith}
 use Rattle.tcc_reads.specs.History.{History, count}
 use Rattle.tcc_graph.specs.Relations.{IsCausalPair}
@@ -47,7 +47,7 @@ one_allowed level.Causal walk one = tt
 one_allowed level.Atomic walk one = one
 
 module _ (h : History) (begun reached new : List ℕ) (n : ℕ) where
-  -- from where a lane begins, and from where it has come to
+  -- from where a lane begins, and from where it has come
   first_pair : (l : Level) (u v i : ℕ) → IsCausalPair h u v → IsAt begun u i → IsWalkedTo (judged h l) begun (n + 1) v i
   first_pair l u v i pair at =
       let walk = pair_walk h u v pair in (u, walk.0, at, (walk.1, one_allowed l walk.0 walk.2), omega (arith, walk.2))
@@ -80,7 +80,7 @@ module _ (h : History) (begun reached new : List ℕ) (n : ℕ) where
 pub none_walked : (h : History) (l : Level) (begun : List ℕ) (n : ℕ) → AreWalked (judged h l) begun 0 (replicate n 0)
 none_walked h l begun n = λ v i below lane. ((λ at. absurd (zeros_nowhere n v i at)), λ is. absurd (omega (arith, is.4, is.3.0.0)))
 
--- what spreads from where lanes are underway is walked on
+-- the word of the lanes that are underway has exactly these lanes
 under : (l : Level) (starts reached underway : List ℕ) (v i : ℕ) → get_or underway v 0 ≡ underway_at l (get_or starts v 0) (get_or reached v 0)
     → IsAt underway v i ↔ IsUnderway l starts reached v i
 under level.Causal starts reached underway v i is =
@@ -96,7 +96,7 @@ walked_by h l starts reached underway each v i = (
   λ (u, pair, at). (u, pair, (under l starts reached underway u i (each u (pair_below h u v pair).0)).1 at),
 )
 
--- where one pair more leads to nothing new, more of them don't either
+-- where one more pair leads to nothing new, more pairs don't either
 module _ (h : History) (l : Level) (begun reached after : List ℕ) (n : ℕ) (w : AreWalked (judged h l) begun n reached)
     (still : (v : ℕ) → v < count h → get_or after v 0 ≡ get_or reached v 0)
     (each : (v i : ℕ) → v < count h → i < LANES → IsAt after v i ↔ IsWalkedOn h l begun reached v i) where

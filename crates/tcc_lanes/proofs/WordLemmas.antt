@@ -1,4 +1,4 @@
--- Words of marks: what is joined, what two have in common, and one mark more.
+-- Words of marks: what is joined, what two have in common, and one more mark.
 use Rattle.std.proofs.Common.{◌≡◌, ◌≢◌, ◌<◌, ◌≤◌, ◌+◌, ◌↔◌, ◌⊎◌, inl, inr, ℕ, List, get_or, IsTrue, not, nat_eq, replicate, sym, ap, subst, ◌∙◌, arith, w64, ◌*◌, ◌%◌, ◌^◌}
 use Rattle.std.specs.Prelude.{bit_and, bit_or}
 use Rattle.std.specs.Int.{bit_at, bit_not, trailing_zeros}
@@ -9,7 +9,7 @@ use Rattle.std.proofs.lemmas.Nat.Bits.{bit_at-lt, bit_at_or, bit_at_and, bit_at_
 use Rattle.tcc_lanes.specs.declared.words.TheConstants.{LANES}
 use Rattle.tcc_lanes.specs.private.Marks.{HasLane, IsAt}
 
--- a mark is a 1, and none a 0
+-- a mark is 1, and no mark is 0
 bit_cases : (word i : ℕ) → (bit_at word i ≡ 1) ⊎ (bit_at word i ≡ 0)
 bit_cases word i = go (cases_eq (bit_at word i) 1)
   where

@@ -34,7 +34,7 @@ crossed-among = (
   omega arith,
 )
 
--- b/2, by which b/1 has to stand before a/1, needn't be among them
+-- b/2, because of which b/1 has to come before a/1, needn't be among them
 pub overtaken-among : HasCheaperAmong (causally overtaken) both 4
 overtaken-among = (
   1,
@@ -59,7 +59,7 @@ overtaken-among = (
   omega arith,
 )
 
--- by the places a/1, b/1, b/2 that link leads back over both
+-- in the order a/1, b/1, b/2 that link leads back over both
 pub overtaken-spanned : (v : ℕ) → Contains both v → IsSpannedAside (causally overtaken) (λ u. u) v
 overtaken-spanned v there = (
   2,

@@ -1,4 +1,4 @@
--- What ranks contradict, as the places of an order that keeps all pairs, and the cycles through it.
+-- What ranks contradict, where they are the places of an order that keeps all pairs, and the cycles through it.
 use Rattle.std.specs.Prelude.{ℕ, ◌<◌, ◌≤◌, ◌≢◌, ◌+◌, List, length}
 use Rattle.tcc_graph.specs.Levels.{Judged}
 use Rattle.tcc_graph.specs.Links.{IsReason, cost}
@@ -6,7 +6,7 @@ use Rattle.tcc_graph.specs.Routes.{IsRoute}
 use Rattle.tcc_graph.specs.declared.link.Link.{Link}
 use Rattle.tcc_graph.specs.declared.step.Step.{Step}
 
--- the ranks contradict that c reads x from a: who has to stand before a for it has no lower rank
+-- the ranks contradict that c reads x from a: a transaction that has to come before a because of it has no lower rank
 abbrev pub IsAgainstRanks : Judged → (ℕ → ℕ) → ℕ → List ℕ → ℕ → Type 0
 IsAgainstRanks j rank a x c = (b : ℕ) × (walk : List Step) × IsReason j b a x c walk × (rank a ≤ rank b)
 

@@ -5,8 +5,7 @@ use Rattle.tcc_graph.specs.Levels.{Judged, IsAllowedWalk}
 use Rattle.tcc_graph.specs.declared.step.Step.{Step}
 use Rattle.tcc_lanes.specs.declared.lengths.TheConstants.{NO_WALK}
 
--- of each transaction the least number of steps of a walk that the level allows from b to it, where it is a limit at most; else the number
--- that stands for none
+-- for each transaction the least number of steps of a walk from b to it that the level allows, if that is at most the limit; else `NO_WALK`
 pub record AreWalkLengths (j : Judged) (b : ℕ) (most : ℕ) (lengths : List ℕ) : Type 0 where
   pub long : length lengths ≡ count j.history
   pub high : (v : ℕ) → v < count j.history → slice_index lengths v ≤ NO_WALK

@@ -7,7 +7,7 @@ use Rattle.tcc_graph.specs.Orders.{IsNumbering}
 use Rattle.tcc_graph.specs.Relations.{IsCausalPair}
 use Rattle.tcc_graph.specs.declared.step.Step.{Step}
 
--- a derived link of this price leads back, and not into `init`; a cycle of fewer than `most` steps has a step beside it
+-- a derived link of this price leads back, and not into `init`; a cycle of fewer than `most` steps can have another step besides it
 pub record IsClosing (j : Judged) (rank : ℕ → ℕ) (most : ℕ) (b : ℕ) (a : ℕ) (price : ℕ) : Type 0 where
   pub key : List ℕ
   pub reader : ℕ
@@ -22,20 +22,20 @@ pub record IsClosing (j : Judged) (rank : ℕ → ℕ) (most : ℕ) (b : ℕ) (a
 abbrev pub IsOver : Judged → (ℕ → ℕ) → ℕ → ℕ → Type 0
 IsOver j rank most at = (b : ℕ) × (a : ℕ) × (price : ℕ) × IsClosing j rank most b a price × (rank a ≤ at) × (at < rank b)
 
--- v is after u, and nothing between them is without such a link over it
+-- v is after u, and each gap between neighbouring ranks from u to v has such a link over it
 abbrev pub IsJump : Judged → (ℕ → ℕ) → ℕ → ℕ → ℕ → Type 0
 IsJump j rank most u v = (rank u < rank v) × ((at : ℕ) → rank u ≤ at → at < rank v → IsOver j rank most at)
 
--- what leads forward from u to v costs n at least: nothing to u itself, 1 by a pair, and 2 by anything else
+-- links that lead forward from u to v cost at least n: 0 if u is v, 1 by a pair, and 2 otherwise
 abbrev pub IsForward : Judged → (ℕ → ℕ) → ℕ → ℕ → ℕ → ℕ → Type 0
 IsForward j rank most u v n =
     ((u ≡ v) × (n ≡ 0)) ⊎ ((IsCausalPair j.history u v × (n ≡ 1)) ⊎ (IsJump j rank most u v × (n ≡ 2)))
 
--- the same where pairs aren't asked for: nothing to u itself, and 1 by anything else
+-- the same without regard to pairs: 0 if u is v, and 1 otherwise
 abbrev pub IsOnward : Judged → (ℕ → ℕ) → ℕ → ℕ → ℕ → ℕ → Type 0
 IsOnward j rank most u v n = ((u ≡ v) × (n ≡ 0)) ⊎ (IsJump j rank most u v × (n ≡ 1))
 
--- from where such a link ends forward to v, onward to where one begins, and back by that one: fewer steps than `most`
+-- forward from where such a link ends to v, onward to where one begins, and back by that one: fewer steps than `most`
 pub record IsNear (j : Judged) (rank : ℕ → ℕ) (most : ℕ) (v : ℕ) : Type 0 where
   pub target : ℕ
   pub ended : (b : ℕ) × (price : ℕ) × IsClosing j rank most b target price
@@ -48,7 +48,7 @@ pub record IsNear (j : Judged) (rank : ℕ → ℕ) (most : ℕ) (v : ℕ) : Typ
   pub to : IsOnward j rank most v source goes
   pub few : comes + (goes + price) < most
 
--- an order of so many numbers, `init` first, and the position of each of them
+-- an order of n numbers, `init` first, and the position of each of them
 pub record ArePlaces (n : ℕ) (order : List ℕ) (positions : List ℕ) : Type 0 where
   pub numbering : IsNumbering n order
   pub init : slice_index order 0 ≡ 0
@@ -61,7 +61,7 @@ abbrev pub AreEndsOfAll : Judged → (ℕ → ℕ) → ℕ → List ℕ → List
 AreEndsOfAll j rank most sources targets =
     (b : ℕ) (a : ℕ) (price : ℕ) → IsClosing j rank most b a price → Contains sources b × Contains targets a
 
--- those are marked that are near
+-- the marked transactions are those that are near
 pub record AreNear (j : Judged) (rank : ℕ → ℕ) (most : ℕ) (marks : List Bool) : Type 0 where
   pub long : length marks ≡ count j.history
   pub each : (v : ℕ) → v < count j.history → (slice_index_or marks v false ≡ true) ↔ IsNear j rank most v

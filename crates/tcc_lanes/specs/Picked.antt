@@ -7,17 +7,17 @@ use Rattle.tcc_graph.specs.declared.link.Link.{Link}
 use Rattle.tcc_least.specs.Shapes.{NoneBelow}
 use Rattle.tcc_lanes.specs.Among.{IsAmong}
 
--- a link of q steps leads from u to v, and links from s to u cost what it leaves of n
+-- a link of q steps leads from u to v, and links from s to u cost the rest of n
 pub record IsLastAt (j : Judged) (s : ℕ) (v : ℕ) (n : ℕ) (u : ℕ) (q : ℕ) : Type 0 where
   pub link : (l : Link) × (link_from l ≡ u) × (link_to l ≡ v) × IsLink j l × (link_cost l ≡ q)
   pub way : (front : List Link) × LinksLead j s u front × (cost front + q ≡ n)
 
--- and none does from a lower number
+-- and no such link begins at a lower number
 pub record IsLowestLast (j : Judged) (s : ℕ) (v : ℕ) (n : ℕ) (u : ℕ) (q : ℕ) : Type 0 where
   pub last : IsLastAt j s v n u q
   pub lowest : (w : ℕ) (p : ℕ) → IsLastAt j s v n w p → u ≤ w
 
--- the numbers from which the links of a way from s to v that costs n are picked, from the last backwards, each the lowest
+-- the numbers from which the links of a way from s to v that costs n are picked: from the last backwards, each the lowest
 abbrev pub ArePicked : Judged → ℕ → ℕ → ℕ → List ℕ → Type 0
 ArePicked j s v n [] = (v ≡ s) × (n ≡ 0)
 ArePicked j s v n (u ∷ picks) = (q : ℕ) × IsLowestLast j s v n u q × ((m : ℕ) × (m + q ≡ n) × ArePicked j s u m picks)

@@ -1,5 +1,5 @@
-//! A bucket queue (Dial, CACM 12(11), 1969): members by what it costs to come to them. To put one in takes a step, and one for each cost
-//! up to its own that nobody had before.
+//! A bucket queue (Dial, CACM 12(11), 1969): members by what it costs to come to them. To put one in takes a step, and one for each cost up
+//! to its own that no member had before.
 ghost use Rattle.std.specs.Prelude.{◌≡◌, ◌≤◌, ◌<◌, ◌↔◌, ◌⊎◌, [], ℕ, Contains, IsTrue, length, set, OnOk};
 ghost use Rattle.tcc_graph.specs.Tables.{row_of};
 
@@ -7,7 +7,7 @@ use std::alloc::Global;
 use tcc_bits::Row;
 use tcc_txn::NoMemory;
 
-/// As many buckets as these, if there are fewer.
+/// Adds buckets until there are `count`, if there are fewer.
 fn grow(alloc: Global, buckets: &mut Vec<Row<usize>>, count: usize) -> Result<(), NoMemory>
     ensures long { OnOk result (count ≤ length buckets.new.items) }
     ensures kept { OnOk result ((cost : ℕ) → row_of buckets.new.items cost ≡ row_of buckets.old.items cost) }
@@ -34,7 +34,7 @@ pub(crate) fn put(
     Ok(())
 }
 
-/// Takes out who is in the bucket of a cost.
+/// Takes out the members that are in the bucket of a cost.
 pub(crate) fn take(alloc: Global, buckets: &mut Vec<Row<usize>>, cost: u32) -> Row<usize>
     requires { cost < length buckets.old.items }
     ensures taken { result ≡ row_of buckets.old.items cost }

@@ -1,16 +1,16 @@
 //! The members of a cheapest way from one of them back to it, read off backwards from what it costs to come to each (`settling`). For M
-//! members that takes M prices a link, beside the costs themselves.
+//! members this takes M prices for each link, besides the costs themselves.
 ghost use Rattle.std.specs.Prelude.{◌≡◌, ◌≤◌, ◌<◌, ◌+◌, ◌↔◌, ℕ, AllPairs, IfOk, IsTrue, MatchOption, length, reverse, slice_index};
 ghost use Rattle.tcc_graph.specs.Levels.{Judged};
 ghost use Rattle.tcc_lanes.specs.{Among.HasCheaperAlong, Picked.ArePicked, Picked.HasAllAmong, Picked.IsLowestStart};
 ghost use Rattle.tcc_lanes.specs.private.Pricing.{ArePriceRows, HasReturn, IsAttained, IsFirstBefore, IsTable, price_of};
 
-use crate::settling::costs_from;
+use crate::bucket_dijkstra::costs_from;
 use crate::stretches::PriceRow;
 use std::alloc::Global;
 use tcc_txn::NoMemory;
 
-/// Whether a cost is one with a price added to it.
+/// Whether a cost is the sum of another and a price.
 fn is_sum(before: u32, price: u32, cost: u32) -> bool
     ensures { IsTrue result ↔ (before + price ≡ cost) }
 {
@@ -27,7 +27,7 @@ fn price(rows: &[PriceRow], from: usize, to: usize) -> u32
     rows[from].price(to)
 }
 
-/// The first member from which a link leads to another at just what it costs to come there; none where one from the start does.
+/// The first member from which a link leads to another such that the costs add up exactly; none where a link from the start does so.
 fn before(rows: &[PriceRow], costs: &[u32], start: usize, to: usize) -> Option<usize>
     requires table { IsTable rows.now }
     requires start { start < length rows.now }
@@ -50,8 +50,8 @@ fn before(rows: &[PriceRow], costs: &[u32], start: usize, to: usize) -> Option<u
     None
 }
 
-/// The members on a cheapest way from one of them back to it, of links that cost less than `most` together. The links are picked from
-/// the last backwards, each from the lowest number.
+/// The members on a cheapest way from one of them back to it, of links that cost less than `most` together. The links are picked from the
+/// last backwards, each from the lowest number.
 pub(crate) fn circle(
     alloc: Global,
     rows: &[PriceRow],

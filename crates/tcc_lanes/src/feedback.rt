@@ -1,6 +1,6 @@
-//! A feedback vertex set of the links among members, which each cycle of them passes: the targets of the links that lead back in a
-//! depth-first search (Tarjan, SIAM J. Comput. 1(2), 1972). A link that doesn't lead back leads to a member that the search leaves
-//! earlier. For M members that takes some M * M steps.
+//! A feedback vertex set of the links among members: each cycle of them passes one of its members. It is the targets of the links that lead
+//! back in a depth-first search (Tarjan, SIAM J. Comput. 1(2), 1972). A link that doesn't lead back leads to a member that the search
+//! leaves earlier. For M members this takes some M * M steps.
 ghost use Rattle.std.specs.Prelude.{◌≡◌, ◌≢◌, ◌≤◌, ◌<◌, ◌↔◌, ◌⊎◌, ◌==◌, ℕ, true, false, length, slice_index, slice_index_or, if◌then◌else◌, All, IfOk, IsTrue, MatchOption};
 ghost use Rattle.tcc_lanes.specs.declared.pricing.TheConstants.{NONE};
 ghost use Rattle.tcc_lanes.specs.private.Feedback.{IsFeedbackVertexSet, IsMarked, IsUnseen};
@@ -18,7 +18,7 @@ fn is_unseen(price: u32, is_seen: bool) -> bool
     price != NONE && !is_seen
 }
 
-/// The first member that the search hasn't seen and that a link of these prices leads to.
+/// The first member that the search hasn't seen and to which these prices have a link.
 fn first_unseen(prices: &[u32], seen: &[bool]) -> Option<usize>
     requires { length prices.now ≡ length seen.now }
     ensures { MatchOption result ((v : ℕ) → v < length seen.now → IsUnseen prices.now seen.now v → ⊥)
@@ -32,7 +32,7 @@ fn first_unseen(prices: &[u32], seen: &[bool]) -> Option<usize>
     None
 }
 
-/// The members in descending order, each of which a search is to begin at.
+/// The members in descending order; a search is to begin at each of them.
 fn roots(alloc: Global, count: usize) -> Result<Vec<usize>, NoMemory>
     ensures { IfOk result (λ path. All (λ v. v < count) path.items) }
 {
@@ -43,15 +43,15 @@ fn roots(alloc: Global, count: usize) -> Result<Vec<usize>, NoMemory>
     Ok(path)
 }
 
-/// The turn at which the search left a member first; 0 is none.
+/// The turn at which the search first left a member; 0 is none.
 fn first_turn(left: usize, turn: usize) -> usize
     ensures { result ≡ (if left == 0 then turn else left) }
 {
     if left == 0 { turn } else { left }
 }
 
-/// Of each member the turn at which a depth-first search leaves it. Whatever these are, what is made of them is a feedback vertex set; by a
-/// search it is a small one.
+/// For each member the turn at which a depth-first search leaves it. Whatever these turns are, the set made of them is a feedback vertex
+/// set; those of a search make it a small one.
 fn turns_left(alloc: Global, rows: &[PriceRow]) -> Result<Vec<usize>, NoMemory>
     requires table { IsTable rows.now }
     ensures { IfOk result (λ left. length left.items ≡ length rows.now) }
@@ -59,7 +59,7 @@ fn turns_left(alloc: Global, rows: &[PriceRow]) -> Result<Vec<usize>, NoMemory>
     let mut left = vec![in alloc; 0; rows.len()]?;
     let mut seen = vec![in alloc; false; rows.len()]?;
     let mut path = roots(alloc, rows.len())?;
-    // Each is taken up as a root, and as a member that a link leads to, and a turn more for each such link.
+    // Each member is taken up as a root and for each link that leads to it, with one more turn for each such link.
     for turn in 1..rows.len().saturating_mul(3).saturating_add(1) {
         let Some(at) = path.pop() else {
             return Ok(left);
@@ -97,7 +97,7 @@ fn mark_back(prices: &[u32], left: &[usize], turn: usize, marks: &mut [bool])
     }
 }
 
-/// Marks a feedback vertex set: each cycle of links among the members passes one of these.
+/// Marks a feedback vertex set: each cycle of links among the members passes a member of it.
 pub(crate) fn feedback_vertices(alloc: Global, rows: &[PriceRow]) -> Result<Vec<bool>, NoMemory>
     requires table { IsTable rows.now }
     ensures { IfOk result (λ marks. IsFeedbackVertexSet rows.now marks.items) }

@@ -1,12 +1,12 @@
-//! The frontier of the search: walks from where lanes start, one pair longer each time.
+//! The frontier of the search: walks from where lanes start, longer by one pair each time.
 ghost use Rattle.std.specs.Prelude.{◌≡◌, ◌<◌, ◌↔◌, ℕ, false, length, slice_index, IfOk};
 ghost use Rattle.tcc_reads.specs.History.{IsBySession, count};
 ghost use Rattle.tcc_graph.specs.Levels.{judged};
 ghost use Rattle.tcc_clocks.specs.Parents.{ArePrevious};
 ghost use Rattle.tcc_lanes.specs.{declared.words.TheConstants.LANES, private.Marks.IsAt, private.Walking.IsWalkedOn, private.Walking.underway_at, private.Walks.AreWalked};
 
+use crate::expand::spread;
 use crate::marking::Marking;
-use crate::spreading::spread;
 use std::alloc::Global;
 use tcc_graph::{LargeGraph, Level};
 
@@ -20,7 +20,7 @@ fn underway_at(level: Level, starts: u64, reached: u64) -> u64
     }
 }
 
-/// Puts the lanes that go on from each transaction in the place of what stood there.
+/// Replaces each word by the lanes that go on from that transaction.
 fn put_underway(level: Level, starts: &[u64], reached: &[u64], underway: &mut [u64])
     requires starts { length starts.now ≡ length underway.old }
     requires reached { length reached.now ≡ length underway.old }
@@ -33,7 +33,7 @@ fn put_underway(level: Level, starts: &[u64], reached: &[u64], underway: &mut [u
     }
 }
 
-/// One pair more from where the lanes start and from where they have come to. It answers whether any lane has come to anything new.
+/// Goes on by one pair from where the lanes start and from where they have come. It returns whether any lane has come to anything new.
 pub(crate) fn walk_on(
     graph: &LargeGraph,
     level: Level,
@@ -57,7 +57,7 @@ pub(crate) fn walk_on(
     spread(graph, parent_of, underway, reached)
 }
 
-/// The lanes that have come to each transaction, by walks of so many pairs at most.
+/// The lanes that have come to each transaction, by walks of at most `most` pairs.
 pub(crate) fn walked(
     alloc: Global,
     graph: &LargeGraph,

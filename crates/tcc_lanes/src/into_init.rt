@@ -1,5 +1,6 @@
-//! Derived links into `init`, 64 keys at a time: the lane of a key begins at who writes it, and is met where it is read from `init`.
-//! For K keys, N transactions and R reads that takes K / 64 times so many sweeps of N + R as longer walks lead to anything new.
+//! Derived links into `init`, 64 keys at a time: the lane of a key begins at its writers, and is met where the key is read from `init`. For
+//! K keys, N transactions and R reads this takes K / 64 rounds of sweeps of N + R, one sweep for each length of walks that leads to
+//! anything new.
 ghost use Rattle.std.specs.Prelude.{◌≡◌, ◌≤◌, ◌<◌, ◌↔◌, ℕ, length, All, IfOk, IsTrue, MatchOption};
 ghost use Rattle.tcc_reads.specs.History.{IsBySession, count};
 ghost use Rattle.tcc_graph.specs.{Keys.keys, Levels.judged};
@@ -30,7 +31,7 @@ fn lanes_written(graph: &LargeGraph, key_lanes: &[u64], v: u32) -> u64
     word
 }
 
-/// Each lane at who writes its key, of the transactions before the end.
+/// Each lane at the writers of its key, of the transactions before the end.
 fn begun_at_writers(alloc: Global, graph: &LargeGraph, key_lanes: &[u64], end: u32) -> Marking
     requires some { 0 < end }
     requires end { end ≤ count graph.now }
@@ -58,7 +59,7 @@ fn reads_initial(graph: &LargeGraph, key_lanes: &[u64], word: u64, reader: u32) 
     false
 }
 
-/// Whether one does that such a lane has come to.
+/// Whether some transaction does so to which such a lane has come.
 fn is_met(graph: &LargeGraph, key_lanes: &[u64], reached: &[u64]) -> bool
     requires reached { length reached.now ≡ count graph.now }
     requires lanes { length key_lanes.now ≡ length (keys graph.now) }
@@ -72,7 +73,7 @@ fn is_met(graph: &LargeGraph, key_lanes: &[u64], reached: &[u64]) -> bool
     false
 }
 
-/// Whether a derived link leads into `init` from a transaction before the end, by one of these keys and a walk of so many steps at most.
+/// Whether a derived link leads into `init` from a transaction before the end, by one of these keys and a walk of at most `most` steps.
 fn has_into_init(
     alloc: Global,
     graph: &LargeGraph,
@@ -96,8 +97,8 @@ fn has_into_init(
     Ok(is_met(graph, &key_lanes, &reached))
 }
 
-/// Whether a derived link into `init`, by a reader of one of these keys, and a pair that leads on from there cost less than `most`.
-/// Each key is told by its index.
+/// Whether a derived link into `init`, by a reader of one of these keys, and a pair that leads on from there cost less than `most`. Each
+/// key is given by its index.
 #[tactic(auto, using(crate::proofs::TileLemmas::all_in_tile))]
 pub fn has_cheaper_into_init(
     alloc: Global,
@@ -109,7 +110,7 @@ pub fn has_cheaper_into_init(
     requires { All (λ k. k < length (keys graph.now)) key_indices.now }
     ensures { IfOk result (λ found. IsTrue found ↔ HasCheaperIntoInit (judged graph.now level) key_indices.now most) }
 {
-    // transactions stand by session and by place, as this call says
+    // this call ensures that transactions are ordered by session and place
     graph.sessions();
     let parent_of = previous_of_each(alloc, graph)?;
     let longest = most.saturating_sub(3);
@@ -130,8 +131,8 @@ pub fn has_cheaper_into_init(
     Ok(false)
 }
 
-/// What a derived link into `init`, by a reader of one of these keys, and a pair that leads on from there cost together at least, if that
-/// is less than `most`. It takes what `has_cheaper_into_init` does, and that so many times more as `most` can be halved where there is one.
+/// The least cost of a derived link into `init`, by a reader of one of these keys, with a pair that leads on from there, if it is less than
+/// `most`. It takes what `has_cheaper_into_init` does; where there is one, that is repeated as often as `most` can be halved.
 pub fn cheapest_into_init(
     alloc: Global,
     graph: &LargeGraph,
@@ -161,8 +162,8 @@ pub fn cheapest_into_init(
     unreachable!()
 }
 
-/// The lowest transaction before the end from which a derived link leads into `init` by one of these keys and a walk of so many steps at
-/// most, by halving; the end where there is none.
+/// The lowest transaction before the end from which a derived link leads into `init`, found by halving; the end where there is none. The
+/// link is by one of these keys, and its walk has at most `most` steps.
 fn lowest_in_tile(
     alloc: Global,
     graph: &LargeGraph,
@@ -199,9 +200,9 @@ fn lowest_in_tile(
     unreachable!()
 }
 
-/// The lowest transaction from which a derived link leads into `init`, by a reader of one of these keys, that costs less than `most` with
-/// a pair that leads on from there; none where there is no such link. It takes what `has_cheaper_into_init` does, and for each 64 keys by
-/// which a lower one is found so many times more as N can be halved.
+/// The lowest transaction from which a derived link leads into `init`, by a reader of one of these keys, and costs less than `most` with a
+/// pair that leads on from there. It is none where there is no such link. It takes what `has_cheaper_into_init` does; each 64 keys by which
+/// a lower one is found are searched again as often as N can be halved.
 #[tactic(auto, using(crate::proofs::TileLemmas::all_in_tile))]
 pub fn lowest_into_init(
     alloc: Global,
@@ -215,7 +216,7 @@ pub fn lowest_into_init(
         (HasCheaperIntoInit (judged graph.now level) key_indices.now most → ⊥)
         (IsLowestIntoInit (judged graph.now level) key_indices.now most)) }
 {
-    // transactions stand by session and by place, as this call says
+    // this call ensures that transactions are ordered by session and place
     graph.sessions();
     let parent_of = previous_of_each(alloc, graph)?;
     let walk_most = most.saturating_sub(3);

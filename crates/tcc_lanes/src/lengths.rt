@@ -1,6 +1,6 @@
-//! How many steps the shortest walks from a transaction have: lengths are lowered along the pairs until none is any more (Bellman,
-//! Quarterly of Applied Mathematics 16(1), 1958), in sweeps along the numbers that go on from what they lowered. For N transactions and R
-//! reads that takes a sweep of N + R for each time that shortest walks lead to a lower number, and two more.
+//! How many steps the shortest walks from a transaction have. Lengths are lowered along the pairs until none changes any more (Bellman,
+//! Quarterly of Applied Mathematics 16(1), 1958). The sweeps go along the numbers, and use what they have lowered. For N transactions and R
+//! reads this takes a sweep of N + R for each time that shortest walks lead to a lower number, and two more.
 ghost use Rattle.std.specs.Prelude.{◌≡◌, ◌<◌, ◌+◌, ℕ, false, length, slice_index, IfOk};
 ghost use Rattle.tcc_reads.specs.History.{IsBySession, count};
 ghost use Rattle.tcc_clocks.specs.Parents.{ArePrevious};
@@ -13,11 +13,11 @@ use tcc_clocks::previous_of_each;
 use tcc_graph::{LargeGraph, Level};
 use tcc_txn::NoMemory;
 
-/// The length that stands for no walk.
+/// The length where there is no walk.
 pub const NO_WALK: u32 = u32::MAX;
 
-/// How many steps lead to a transaction to go on from there: none to where walks begin. Where all walks are of one step none goes on from
-/// any other.
+/// How many steps lead to a transaction when a walk goes on from there: 0 where walks begin. Where all walks have one step, none goes on
+/// from any other transaction.
 fn steps_at(level: Level, from: u32, lengths: &[u32], v: u32) -> u32
     requires { v < length lengths.now }
     ensures { result ≡ steps_at level from lengths.now v }
@@ -44,7 +44,7 @@ fn least_at_sources(graph: &LargeGraph, level: Level, from: u32, lengths: &[u32]
     least
 }
 
-/// The fewest steps to a transaction before this one in session order, by those of the number before.
+/// The fewest steps to a transaction before this one in session order, from those of the previous index.
 fn least_before(
     level: Level,
     from: u32,
@@ -65,7 +65,7 @@ fn least_before(
     if parent == 0 { last } else { run.min(last) }
 }
 
-/// A length, lowered to a step more than lead to where a pair begins, where these are fewer than the most.
+/// A length, lowered to one more than the steps to where a pair begins, if these are fewer than `most`.
 fn lowered(length: u32, steps: u32, most: u32) -> u32
     ensures { IsLowered (steps < most) (steps + 1) length result }
 {
@@ -76,14 +76,14 @@ fn lowered(length: u32, steps: u32, most: u32) -> u32
     }
 }
 
-/// Whether any length is new: one was before, or this isn't what it was.
+/// Whether any length is new: one was before, or this one has changed.
 fn is_new_by(is_new: bool, old: u32, length: u32) -> bool
     ensures { result ≡ false → (is_new ≡ false) × (length ≡ old) }
 {
     is_new || length != old
 }
 
-/// Lowers each length along the pairs that lead there, for walks of so many steps at most. It answers whether any is new.
+/// Lowers each length along the pairs that lead there, for walks of at most `most` steps. It returns whether any is new.
 fn lower_lengths(
     graph: &LargeGraph,
     level: Level,
@@ -111,8 +111,8 @@ fn lower_lengths(
     is_new
 }
 
-/// Of each transaction how many steps the shortest walk from this one to it has that the level allows, where these are so many at most;
-/// `NO_WALK` of any other.
+/// For each transaction the number of steps of a shortest walk from this one to it that the level allows, if that is at most `most`; else
+/// `NO_WALK`.
 pub fn walk_lengths(
     alloc: Global,
     graph: &LargeGraph,
@@ -123,7 +123,7 @@ pub fn walk_lengths(
     requires from { from < count graph.now }
     ensures { IfOk result (λ lengths. AreWalkLengths (judged graph.now level) from most lengths.items) }
 {
-    // transactions stand by session and by place, as this call says
+    // this call ensures that transactions are ordered by session and place
     graph.sessions();
     let parent_of = previous_of_each(alloc, graph)?;
     let mut lengths = vec![in alloc; NO_WALK; graph.count() as usize]?;

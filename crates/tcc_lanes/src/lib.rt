@@ -1,30 +1,30 @@
-//! Multi-source breadth-first search (Then et al., VLDB 2014) along the pairs of a history: 64 lanes at a time, a word of marks
-//! for each transaction. For N transactions and R reads a level takes N + R steps, whatever the lanes.
+//! Multi-source breadth-first search (Then et al., VLDB 2014) along the pairs of a history: 64 lanes at a time, a word of marks for each
+//! transaction. For N transactions and R reads a level takes N + R steps, whatever the lanes.
 #![tactic(auto)]
 
-mod among;
+mod bucket_dijkstra;
 mod buckets;
 mod circling;
-mod closings;
+mod cycle_among;
+mod expand;
 mod feedback;
 mod frontier;
+mod hits;
 mod into_init;
 pub mod laws;
 mod lengths;
 mod limits;
 mod marking;
-mod meeting;
 mod nearness;
 mod passes;
 mod price_rows;
 mod pricing;
-mod settling;
-mod spreading;
 mod stretches;
 mod tiles;
+mod two_step_links;
 mod words;
 
-pub use among::{cheaper_among, cheapest_among, has_cheaper_among};
+pub use cycle_among::{cheaper_among, cheapest_among, has_cheaper_among};
 pub use into_init::{cheapest_into_init, has_cheaper_into_init, lowest_into_init};
 pub use lengths::{NO_WALK, walk_lengths};
 pub use limits::{MOST_MEMBERS, MOST_STEPS, MOST_SWEPT};

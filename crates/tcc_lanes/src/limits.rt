@@ -1,8 +1,8 @@
-//! What is looked at at most where a claim is judged that a cycle is least. No call here asks for these limits.
+//! Limits for judging a claim that a cycle is least. No call here checks them.
 
-/// The transactions among which cycles are looked for.
+/// At most this many transactions, among which cycles are looked for.
 pub const MOST_MEMBERS: usize = 4096;
-/// The steps below which a cycle is looked for.
+/// Cycles are looked for below at most this many steps.
 pub const MOST_STEPS: u32 = 64;
-/// The transactions at most from which links back are looked for, times the steps below which a cycle is.
+/// The number of transactions from which links back are looked for, times the steps below which a cycle is, is at most this.
 pub const MOST_SWEPT: usize = 262_144;

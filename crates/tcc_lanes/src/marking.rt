@@ -49,7 +49,7 @@ pub(crate) fn marks_of(alloc: Global, count: usize, indices: &[u32]) -> Marking
     Ok(marks)
 }
 
-/// Of each key the lanes whose transaction writes it.
+/// For each key the lanes whose transaction writes it.
 pub(crate) fn writer_marks(alloc: Global, graph: &LargeGraph, writers: &[u32]) -> Marking
     requires inside { All (λ b. b < count graph.now) writers.now }
     requires some { All (λ b. 0 < b) writers.now }

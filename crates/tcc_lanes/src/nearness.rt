@@ -1,5 +1,5 @@
-//! The transactions that are near to the derived links that lead back in an order: by what leads to each from where one of them ends,
-//! and from it to where one begins. For N transactions and R reads that takes some N + R steps.
+//! The transactions that are near to the derived links that lead back in an order: by the links that lead to each from where one of them
+//! ends, and from it to where one begins. For N transactions and R reads this takes some N + R steps.
 ghost use Rattle.std.specs.Prelude.{◌≡◌, ◌≤◌, ◌<◌, ◌+◌, ◌↔◌, ◌⊎◌, ℕ, Bool, List, true, false, length, slice_index, slice_index_or, if◌then◌else◌, All, AllPairs, IfOk, IsTrue};
 ghost use Rattle.tcc_reads.specs.History.{History, count};
 ghost use Rattle.tcc_graph.specs.{Levels.judged, Orders.IsNumbering};
@@ -7,11 +7,11 @@ ghost use Rattle.tcc_lanes.specs.{Nearness.AreEndsOfAll, Nearness.AreNear, Nearn
 ghost use Rattle.tcc_lanes.specs.private.Marks.{HasLane, IsAt};
 ghost use Rattle.tcc_lanes.specs.private.Passes.{AreCovered, AreEnds, AreNearTo, ArePricesOf, IsBeyond, IsLeastPrice, IsLedFromEnd, IsNearAt, IsReachedOn};
 
-use crate::closings::{Closings, find_closings};
+use crate::expand::spread;
 use crate::marking::Marking;
 use crate::passes::{beyond, covered, reached_on};
 use crate::pricing::NONE;
-use crate::spreading::spread;
+use crate::two_step_links::{Closings, find_closings};
 use crate::words::{has_lane, with_lane};
 use std::alloc::Global;
 use tcc_clocks::previous_of_each;
@@ -42,7 +42,7 @@ fn led_on(alloc: Global, graph: &LargeGraph, lasts: &[u32]) -> Marking
     ensures long { IfOk result (λ marks. length marks.items ≡ count graph.now) }
     ensures each { IfOk result (λ marks. (v : ℕ) → v < count graph.now → IsAt marks.items v 0 ↔ IsLedFromEnd graph.now lasts.now v) }
 {
-    // transactions stand by session and by place, as this call says
+    // this call ensures that transactions are ordered by session and place
     graph.sessions();
     let parent_of = previous_of_each(alloc, graph)?;
     let marks = ends(alloc, lasts)?;
@@ -51,7 +51,7 @@ fn led_on(alloc: Global, graph: &LargeGraph, lasts: &[u32]) -> Marking
     Ok(found)
 }
 
-/// What leads to a transaction from where a link ends costs at least.
+/// The least cost of the links that lead to a transaction from where a link ends.
 fn comes_at(ends: bool, led: bool, reached: bool) -> u32
     ensures { result ≡ (if ends then 0 else if led then 1 else if reached then 2 else NONE) }
 {
@@ -66,7 +66,7 @@ fn comes_at(ends: bool, led: bool, reached: bool) -> u32
     }
 }
 
-/// Whether what leads to a transaction and on from it costs less than `most`.
+/// Whether the links to a transaction and on from it cost less than `most`.
 fn is_near(comes: u32, price: u32, beyond: u32, most: u32) -> bool
     ensures { IsTrue result ↔ ((comes + price < most) ⊎ (comes + (beyond + 1) < most)) }
 {
@@ -75,7 +75,7 @@ fn is_near(comes: u32, price: u32, beyond: u32, most: u32) -> bool
     comes + u64::from(price) < most || comes + (u64::from(beyond) + 1) < most
 }
 
-/// Whether a transaction at a place is near, by what was found of it and of its place.
+/// Whether a transaction at a place is near, by what was found about it and its place.
 fn is_near_at(
     prices: &[u32],
     lasts: &[u32],
@@ -102,7 +102,7 @@ fn is_near_at(
     is_near(comes, prices[at], beyond[place], most)
 }
 
-/// Marks the transactions that are near, by what was found of the links.
+/// Marks the transactions that are near, by what was found about the links.
 fn mark_near(
     alloc: Global,
     graph: &LargeGraph,
@@ -137,8 +137,8 @@ fn mark_near(
     Ok(marks)
 }
 
-/// Marks the transactions that are near to the derived links that lead back in an order, and of which a cycle of fewer than `most`
-/// steps may have one. Each of these links begins at one of the sources and ends at one of the targets, which ascend.
+/// Marks the transactions that are near to the derived links that lead back in an order, and that a cycle of fewer than `most` steps may
+/// therefore pass. Each of these links begins at one of the sources and ends at one of the targets, which ascend.
 pub fn near(
     alloc: Global,
     graph: &LargeGraph,

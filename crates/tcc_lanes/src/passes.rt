@@ -8,7 +8,7 @@ use crate::pricing::NONE;
 use std::alloc::Global;
 use tcc_txn::NoMemory;
 
-/// Of each place of the order whether one leads back from behind it to it or before it.
+/// For each place of the order whether one leads back from after it to it or before it.
 pub(crate) fn covered(alloc: Global, order: &[u32], lasts: &[u32]) -> Result<Vec<bool>, NoMemory>
     requires { All (λ v. v < length lasts.now) order.now }
     ensures { IfOk result (λ covered. AreCovered order.now lasts.now (length order.now) covered.items) }
@@ -22,14 +22,14 @@ pub(crate) fn covered(alloc: Global, order: &[u32], lasts: &[u32]) -> Result<Vec
     Ok(covered)
 }
 
-/// Whether the next place is reached, where this one is or a link ends here, and it is covered.
+/// Whether the next place is reached: this one is reached or a link ends here, and it is covered.
 fn is_reached(here: bool, ends: bool, on: bool) -> bool
     ensures { result ≡ ((here || ends) && on) }
 {
     (here || ends) && on
 }
 
-/// Of each place of the order whether it is reached from a place before it where one ends, over covered places alone.
+/// For each place of the order whether it is reached from an earlier place where one ends, over covered places only.
 pub(crate) fn reached_on(
     alloc: Global,
     order: &[u32],
@@ -51,7 +51,7 @@ pub(crate) fn reached_on(
     Ok(reached)
 }
 
-/// Of each place of the order the least price of one that begins behind it, over covered places alone.
+/// For each place of the order the least price of one that begins after it, over covered places only.
 pub(crate) fn beyond(
     alloc: Global,
     order: &[u32],

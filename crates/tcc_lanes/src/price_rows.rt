@@ -1,4 +1,4 @@
-//! A row of prices for each member. For M members that takes M * M steps, beside what `pricing` takes.
+//! A row of prices for each member. For M members this takes M * M steps, besides what `pricing` takes.
 ghost use Rattle.std.specs.Prelude.{◌≡◌, ◌≤◌, ◌<◌, ◌+◌, ◌*◌, ◌^◌, ◌↔◌, ℕ, Bool, true, List, length, slice_index, if◌then◌else◌, All, AllPairs, IfOk, OnOk};
 ghost use Rattle.tcc_reads.specs.History.{History, IsBySession, count};
 ghost use Rattle.tcc_clocks.specs.Parents.{ArePrevious};
@@ -6,10 +6,10 @@ ghost use Rattle.tcc_graph.specs.{Levels.IsAllowed, Levels.judged, declared.step
 ghost use Rattle.tcc_lanes.specs.{declared.pricing.TheConstants.NONE, declared.words.TheConstants.LANES};
 ghost use Rattle.tcc_lanes.specs.private.{Marks.HasLane, Marks.IsAt, Pricing.AreMarked, Pricing.ArePairsFrom, Pricing.ArePriceRows, Pricing.AreRowsOn, Pricing.IsRowOf, Pricing.cell};
 
+use crate::expand::spread;
+use crate::hits::columns_of;
 use crate::marking::{Marking, marks_of};
-use crate::meeting::columns_of;
 use crate::pricing::{NONE, Prices, prices_from};
-use crate::spreading::spread;
 use crate::stretches::PriceRow;
 use crate::tiles::tile_at;
 use crate::words::{LANES, has_lane};
@@ -18,7 +18,7 @@ use tcc_clocks::previous_of_each;
 use tcc_graph::{LargeGraph, Level};
 use tcc_txn::NoMemory;
 
-/// How long a walk may be at most, so that its derived link costs less than `most`: at `Atomic` all are of one step.
+/// How long a walk may be, so that its derived link costs less than `most`: at `Atomic` all walks have one step.
 pub(crate) fn longest_walk(level: Level, most: u32) -> u32
     ensures few { result < NONE }
     ensures all { (walk : List Step) → IsAllowed level walk → length walk + 1 < most → length walk ≤ result }
@@ -29,7 +29,7 @@ pub(crate) fn longest_walk(level: Level, most: u32) -> u32
     }
 }
 
-/// Where a pair leads to from each start, as marks of its lane.
+/// Where a pair leads from each start, as marks of its lane.
 fn pairs_from(alloc: Global, graph: &LargeGraph, parent_of: &[u32], starts: &[u32]) -> Marking
     requires numbered { IsBySession graph.now.entries }
     requires parents { ArePrevious graph.now parent_of.now }
@@ -44,7 +44,7 @@ fn pairs_from(alloc: Global, graph: &LargeGraph, parent_of: &[u32], starts: &[u3
     Ok(pairs)
 }
 
-/// What a link of a lane to a column costs: 1 where the word of pairs has the lane, and else what the derived one does.
+/// What a link of a lane to a column costs: 1 where the word of pairs has the lane, and else the price of the derived one.
 fn link_price(pairs: u64, prices: &Prices, column: usize, lane: usize) -> u32
     requires lane { lane < LANES }
     requires column { column < length prices.now.lanes.items }
@@ -109,7 +109,7 @@ fn push_rows(
     Ok(())
 }
 
-/// What links among members cost that cost less than `most`: a row for each.
+/// What links among members cost, for those that cost less than `most`: a row for each member.
 #[tactic(auto, using(crate::proofs::TileLemmas::all_in_tile))]
 pub(crate) fn price_rows(
     alloc: Global,
@@ -123,7 +123,7 @@ pub(crate) fn price_rows(
     requires ascending { AllPairs (λ u v. u < v) members.now }
     ensures { IfOk result (λ rows. ArePriceRows (judged graph.now level) members.now most (length members.now) rows.items) }
 {
-    // transactions stand by session and by place, as this call says
+    // this call ensures that transactions are ordered by session and place
     graph.sessions();
     let parent_of = previous_of_each(alloc, graph)?;
     let columns = columns_of(alloc, graph, members)?;

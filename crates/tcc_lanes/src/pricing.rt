@@ -1,6 +1,6 @@
-//! What links among members cost: 1 where there is a pair, and else a step more than the shortest walk of a derived link, found from
-//! 64 members at a time. For M members, N transactions and R reads that takes M / 64 times so many sweeps of N + R as longer walks lead
-//! to anything new, and 256 M bytes at a time.
+//! What links among members cost: 1 where there is a pair, and else one step more than the shortest walk of a derived link. They are found
+//! from 64 members at a time. For M members, N transactions and R reads this takes M / 64 rounds of sweeps of N + R, one sweep for each
+//! length of walks that leads to anything new. It takes 256 M bytes at a time.
 ghost use Rattle.std.specs.Prelude.{◌≡◌, ◌≢◌, ◌≤◌, ◌<◌, ◌+◌, ◌*◌, ◌^◌, ◌↔◌, ℕ, IsTrue, length, slice_index, All, IfOk};
 ghost use Rattle.tcc_reads.specs.History.{IsBySession, count};
 ghost use Rattle.tcc_graph.specs.Levels.{judged};
@@ -9,8 +9,8 @@ ghost use Rattle.tcc_lanes.specs.{declared.words.TheConstants.LANES, declared.pr
 ghost use Rattle.tcc_lanes.specs.private.Pricing.{AreColumns, AreMarked, ArePrices, IsLowered, cell};
 
 use crate::frontier::walk_on;
+use crate::hits::{columns_of, meet};
 use crate::marking::{marks_of, writer_marks};
-use crate::meeting::{columns_of, meet};
 use crate::words::{LANES, has_lane};
 use std::alloc::Global;
 use tcc_graph::{LargeGraph, Level};
@@ -22,7 +22,7 @@ pub(crate) const NONE: u32 = u32::MAX;
 /// What derived links from the starts of some lanes to the members cost.
 #[derive(Drop)]
 pub(crate) struct Prices {
-    /// Of each column the lanes that have a price there.
+    /// For each column the lanes that have a price there.
     pub(crate) lanes: Vec<u64>,
     /// The price of each lane in each column; `NONE` where it has none.
     pub(crate) table: Vec<u32>,
@@ -79,7 +79,7 @@ fn lower(table: &mut [u32], members: &[u32], starts: &[u32], found: &[u64], pric
     }
 }
 
-/// What derived links from these starts to the members cost, by walks of so many steps at most.
+/// What derived links from these starts to the members cost, by walks of at most `longest` steps.
 pub(crate) fn prices_from(
     alloc: Global,
     graph: &LargeGraph,

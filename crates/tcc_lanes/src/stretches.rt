@@ -1,5 +1,5 @@
-//! Run-length encoding of what links from one member cost: columns beside one another with the same price are one stretch. Members of
-//! one session stand beside one another, and mostly cost the same. A row of S stretches takes 8 S bytes, and S steps to go through.
+//! Run-length encoding of what links from one member cost: neighbouring columns with the same price are one stretch. Members of one session
+//! are neighbours, and mostly cost the same. A row of S stretches takes 8 S bytes, and S steps to go through.
 ghost use Rattle.std.specs.Prelude.{◌≡◌, ◌≢◌, ◌≤◌, ◌<◌, ◌+◌, ◌^◌, ◌++◌, ◌∷◌, [], ◌⊎◌, ℕ, false, length, slice_index, min, IfOk, OnOk};
 ghost use Rattle.tcc_lanes.specs.private.Buckets.{AreQueuedOn};
 
@@ -10,7 +10,7 @@ use std::marker::Model;
 use tcc_bits::Row;
 use tcc_txn::NoMemory;
 
-/// Columns beside one another with the same price.
+/// Neighbouring columns with the same price.
 #[derive(Clone, Copy, Drop)]
 struct Stretch {
     /// How many columns.
@@ -19,7 +19,7 @@ struct Stretch {
     price: u32,
 }
 
-/// What links from one member to each of them cost.
+/// What links from one member to each member cost.
 #[derive(Drop)]
 pub(crate) struct PriceRow {
     stretches: Vec<Stretch>,
@@ -34,8 +34,7 @@ impl Model for PriceRow {
     ghost view = { λ r. prices_in r.stretches.items };
 }
 
-/// Lowers what it costs to come to a member to a level and a price together, if that was dearer, and puts it into the bucket of the new
-/// cost.
+/// Lowers the cost of a member to the sum of a level and a price, if it was dearer, and puts it into the bucket of the new cost.
 fn lower_at(
     alloc: Global,
     costs: &mut [u32],
@@ -59,7 +58,7 @@ fn lower_at(
     Ok(())
 }
 
-/// Whether anything is dearer: something was before, or a cost is.
+/// Whether anything is dearer: something was before, or this cost is.
 fn is_dearer_by(is_dearer: bool, old: u32, cost: u32) -> bool
     ensures { result ≡ false → (is_dearer ≡ false) × (old ≤ cost) }
 {
@@ -78,7 +77,7 @@ fn any_dearer(costs: &[u32], from: usize, end: usize, cost: u32) -> bool
     is_dearer
 }
 
-/// Lowers the costs of some columns to a level and a price together.
+/// Lowers the costs of some columns to the sum of a level and a price.
 fn lower_columns(
     alloc: Global,
     costs: &mut [u32],
@@ -98,7 +97,7 @@ fn lower_columns(
     if price == NONE {
         return Ok(());
     }
-    // Mostly nothing is, and many columns at a time are compared.
+    // Mostly no column is dearer, and this compares many columns at a time.
     if !any_dearer(costs, from, end, level.saturating_add(price)) {
         return Ok(());
     }
@@ -158,8 +157,8 @@ impl PriceRow {
         Ok(prices)
     }
 
-    /// Lowers what it costs to come to each member, by going on from this one where that costs a level; those that are lowered are put
-    /// into the buckets of their costs.
+    /// Lowers the cost of each member, by going on from this one, whose cost is `level`. The members that are lowered are put into the
+    /// buckets of their costs.
     pub(crate) fn relax(
         &self,
         alloc: Global,

@@ -1,4 +1,4 @@
--- Cells that were given the numbers from 1 on, one after the other: no more numbers than cells.
+-- Cells that were given the numbers from 1 on, one after another: no more numbers than cells.
 use Rattle.std.proofs.Common.{ℕ, zero, suc, ◌+◌, ◌<◌, ◌≤◌, ◌≡◌, ◌≢◌, ◌⊎◌, inl, inr, true, eqb, List, ◌∷◌, length, set, refl, sym, subst, ◌∙◌, arith}
 use Rattle.std.specs.Prelude.{slice_index}
 use Rattle.std.specs.List.{list_any}
@@ -7,11 +7,11 @@ use Rattle.std.proofs.lemmas.List.{get_or_past, get_or-set_same, get_or-set_othe
 use Rattle.std.proofs.lemmas.List.Folds.{list_any_at}
 use Rattle.std.proofs.lemmas.Map.Steps.{le-length_from_below}
 
--- each number below n but 0 stands in a cell
+-- each number from 1 to below n is in a cell
 abbrev pub AreNumbered : List ℕ → ℕ → Type 0
 AreNumbered cells n = (r : ℕ) → 0 < r → r < n → (v : ℕ) × (slice_index cells v ≡ r)
 
--- what isn't 0 stands in a cell
+-- what isn't 0 is in a cell
 pub cell_inside : (cells : List ℕ) (v : ℕ) → 0 < slice_index cells v → v < length cells
 cell_inside cells v some = go (cases_lt v (length cells))
   where

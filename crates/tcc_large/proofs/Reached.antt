@@ -13,7 +13,7 @@ use Rattle.tcc_least.proofs.Listed.{pair_at, at_pair}
 use Rattle.tcc_large.specs.private.Reaching.{IsReach, IsMore, AreCovered, AreMet, AreMetBetween, AreSpread, number_at, before_at}
 use Rattle.tcc_large.proofs.Numbered.{numbered_room}
 
--- no more positions than transactions and one
+-- at most one more position than transactions
 pub reach_room : (h : History) (positions covered : List ℕ) (queue : List (ℕ × ℕ)) → IsReach h positions covered queue → length queue ≤ count h + 1
 reach_room h positions covered queue reach =
     omega (arith, reach.long, numbered_room positions (length queue) (λ r some below. (number_at queue r, reach.back r some below)))
@@ -42,7 +42,7 @@ module _ (h : History) (positions covered : List ℕ) (queue : List (ℕ × ℕ)
   room : number < length positions
   room = omega (arith, below, reach.long)
 
-  -- what holds of the old positions and of the last one
+  -- what holds for the old positions and for the last one
   each_position : (P : ℕ → Type 0) → ((i : ℕ) → i < length queue → P i) → P (length queue) → (i : ℕ) → i < length (queue ++ (number, position) ∷ []) → P i
   each_position P old here i l = below_more P (length queue) old here i (omega (arith, l, longer))
 
@@ -125,7 +125,7 @@ module _ (h : History) (positions covered : List ℕ) (queue : List (ℕ × ℕ)
     behind = λ end v some above below. still v (cases_eq v number) (reach.behind end v some above below);
   }
 
--- ---- all that a pair leads to from one
+-- ---- all transactions to which a pair leads from one
 -- the readers, as they are listed with what they read
 module _ (h : History) (from : ℕ) (rs : List ℕ) (ks : List (List ℕ)) (long : length rs ≡ length ks)
     (each : (c : ℕ) (x : List ℕ) → Contains (zip rs ks) (c, x) ↔ IsReadsPair h from c x) where
@@ -147,7 +147,7 @@ pub reach_covered : (h : History) (positions covered : List ℕ) (queue : List (
     → AreCovered positions more → IsReach h positions more queue
 reach_covered h positions covered queue more reach behind = assumption (reach, behind)
 
--- of a session all before what is covered was met
+-- all later ones of a session up to what is covered were met
 pub all_later : (h : History) (from low end high : ℕ) (positions : List ℕ) (p : List (ℕ × ℕ)) (new : List ℕ) (q : List (ℕ × ℕ))
     → ((v : ℕ) → IsSessionPair h from v ↔ ((low ≤ v) × (v < high))) → IsMore positions p new q → AreMetBetween h new from low end
     → ((v : ℕ) → end ≤ v → v < high → 0 < slice_index positions v) → (v : ℕ) → low ≤ v → v < high → 0 < slice_index new v
@@ -157,7 +157,7 @@ all_later h from low end high positions p new q pairs more met was v above below
     go (inl less) = met v above less (inl ((pairs v).1 (above, below)))
     go (inr past) = more.reached v (was v past below)
 
--- one position more
+-- one more position
 pub spread_next : (h : History) (a : List ℕ) (p : List (ℕ × ℕ)) (b : List ℕ) (q : List (ℕ × ℕ)) (n : ℕ) → AreSpread h a p n → IsMore a p b q → n < length p
     → ((v : ℕ) → IsCausalPair h (number_at p n) v → 0 < slice_index b v) → AreSpread h b q (n + 1)
 spread_next h a p b q n spread more inside here i v l pair = go (cases_lt i n)
@@ -191,7 +191,7 @@ module _ (h : History) (positions covered : List ℕ) (queue : List (ℕ × ℕ)
   walk_reached c (s ∷ steps) w = along 0 c s steps reach.some w.1
 
 -- ---- the steps back to the start
--- so many steps, the last one first, lead from here to the goal
+-- n steps, the last one first, lead from here to the goal
 pub record IsBack (h : History) (queue : List (ℕ × ℕ)) (position at : ℕ) (steps : List Step) : Type 0 where
   pub inside : at < length queue
   pub some : (at ≡ position) ⊎ (0 < length steps)

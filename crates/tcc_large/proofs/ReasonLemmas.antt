@@ -22,7 +22,7 @@ use Rattle.tcc_large.proofs.Reached.{walk_reached, spread_upto}
 pub derived_ends : (j : Judged) (b a : ℕ) → IsDerivedPair j b a → (b ≢ a) × (a < count j.history) × (b < count j.history)
 derived_ends j b a (x, c, walk, ((apart, reads, writer), allowed)) = (apart, reads.0, writer.0)
 
--- what no pair holds back a derived link does
+-- where a transaction is held back by no pair, a derived link holds it back
 pub derived_of : (j : Judged) (b a : ℕ) → causal_pair j.history b a ≡ false → IsHeldBack j b a → IsDerivedPair j b a
 derived_of j b a none (inl pair) = absurd (false≢true (sym none ∙ pair_from_kinds j.history b a pair))
 derived_of j b a none (inr derived) = derived
@@ -53,7 +53,7 @@ none_contradicts h from to reader n all none x (apart, reads, writer) =
     none there.0 (omega (arith, there.1, all)) (subst (λ (y : List ℕ). IsWriter h from y) (sym at) writer)
 
 -- ---- by walks
--- those at the positions behind the first, up to n, contradict nothing
+-- the transactions at the positions after the first, up to n, contradict nothing
 abbrev pub NoneUpTo : History → ℕ → ℕ → List (ℕ × ℕ) → ℕ → Type 0
 NoneUpTo h from to queue n = (i : ℕ) → 0 < i → i < n + 1 → (x : List ℕ) → MayContradict h from to x (number_at queue i) → ⊥
 
@@ -76,7 +76,7 @@ none_upto h from to a p b q n reader none more inside is here i some l = go (cas
         let same : n + 1 ≡ i = omega (arith, past, l) in
         subst (λ (z : ℕ). MayContradict h from to x (number_at q z) → ⊥) same (subst (λ (z : ℕ). MayContradict h from to x z → ⊥) is (here x))
 
--- where all was looked at there is no derived link
+-- where all transactions were looked at there is no derived link
 pub no_walk : (h : History) (from to : ℕ) (positions covered : List ℕ) (queue : List (ℕ × ℕ)) (n : ℕ) → IsReach h positions covered queue
     → AreSpread h positions queue (n + 1) → number_at queue 0 ≡ from → length queue ≤ n + 1 → NoneUpTo h from to queue n
     → IsDerivedPair (causally h) from to → ⊥

@@ -1,4 +1,4 @@
--- Going back over what holds transactions back until one comes again, and the links along it.
+-- Going back along what holds transactions back until one comes again, and the links along it.
 use Rattle.std.proofs.Common.{below_more, ℕ, zero, suc, ◌+◌, ◌-◌, ◌<◌, ◌≤◌, ◌≡◌, ◌≢◌, ◌⊎◌, inl, inr, true, false, List, [], ◌∷◌, ◌++◌, length, drop, replicate, set, reverse, refl, sym, ap, subst, ◌∙◌, arith}
 use Rattle.std.specs.Prelude.{slice_index}
 use Rattle.std.specs.List.{All, Contains}
@@ -21,7 +21,7 @@ use Rattle.tcc_large.proofs.Numbered.{AreNumbered, numbered_room}
 use Rattle.tcc_large.proofs.ReasonLemmas.{derived_ends}
 
 -- ---- what holds a transaction back
--- where it was found by what was looked at: a parent that is left, or else a link that is kept
+-- it was found among what was looked at: a parent that is left, or else a link that is kept
 module _ (j : Judged) (numbered : IsBySession j.history.entries) (kept : List (List ℕ)) (placed : List ℕ) (stuck : IsStuck j kept placed) (x : ℕ)
     (left : IsLeft j placed x) where
   pub by_parent : HasSourcesAt j.history x → (b : ℕ) → Contains (parents j.history x) b → is_marked placed b ≡ false → IsLeft j placed b × IsHeldBack j b x
@@ -40,7 +40,8 @@ module _ (j : Judged) (numbered : IsBySession j.history.entries) (kept : List (L
       go b new (inr link) = false≢true (sym new ∙ All-contains (λ b. is_marked placed b ≡ true) (row_of kept x) b no_link link)
 
 -- ---- the trail
--- the numbers so far, of which the last is here, each held back by the next one; of those before the last the positions are noted, from 1 on
+-- the numbers so far, of which the last is the current one, each held back by the next one; for those before the last the positions are
+-- noted, from 1 on
 pub record IsTrail (j : Judged) (positions : List ℕ) (at n : ℕ) (trail : List ℕ) : Type 0 where
   pub many : length trail ≡ n + 1
   pub long : length positions ≡ count j.history
@@ -57,7 +58,7 @@ trail_room j positions at n trail w = omega (arith, w.long, numbered_room positi
     numbered zero some below = absurd (omega (arith, some))
     numbered (suc r) some below = (slice_index trail r, omega (arith, w.back r (omega (arith, below))))
 
--- what was on the trail before closes a round
+-- where a transaction was on the trail before, the trail closes a cycle
 pub trail_round : (j : Judged) (positions : List ℕ) (at n : ℕ) (trail : List ℕ) → IsTrail j positions at n trail → 0 < slice_index positions at
     → GoesRound j (drop (slice_index positions at - 1) trail)
 trail_round j positions at n trail w some = record {
@@ -110,7 +111,7 @@ trail_begins j positions at long none below = record {
   noted = λ v some. absurd (omega (arith, some, none v));
 }
 
--- one more
+-- one more transaction
 module _ (j : Judged) (positions : List ℕ) (at n : ℕ) (trail : List ℕ) (w : IsTrail j positions at n trail) (new : slice_index positions at ≡ 0) (next : ℕ)
     (inside : next < count j.history) (holds : IsHeldBack j next at) where
   room : at < length positions
@@ -174,7 +175,7 @@ module _ (j : Judged) (positions : List ℕ) (at n : ℕ) (trail : List ℕ) (w 
   }
 
 -- ---- the links along it
--- so many links, the last one first, lead from here to where they end
+-- n links, the last one first, lead from here to where they end
 pub record AreBack (j : Judged) (numbers : List ℕ) (n : ℕ) (links : List Link) : Type 0 where
   pub many : length links ≡ n
   pub lead : LinksLead j (slice_index numbers n) (slice_index numbers 0) (reverse links)

@@ -18,13 +18,13 @@ use Rattle.tcc_large.specs.private.Returning.{start_at, end_at, IsClosed, IsFirs
 use Rattle.tcc_large.proofs.Numbered.{AreNumbered, numbered_room, numbered_more}
 
 -- ---- links that lead on, by index
--- those from one on lead from where it starts
+-- those from an index on lead from where it starts
 pub lead_from : (j : Judged) (a b : ℕ) (links : List Link) (i : ℕ) → i < length links → LinksLead j a b links → LinksLead j (start_at links i) b (drop i links)
 lead_from j a b [] i inside lead = absurd (omega arith)
 lead_from j a b (l ∷ links) zero inside lead = (refl, lead.1, lead.2)
 lead_from j a b (l ∷ links) (suc i) inside lead = lead_from j (link_to l) b links i (omega arith) lead.2
 
--- those up to one lead to where it ends
+-- those up to an index lead to where it ends
 pub lead_to : (j : Judged) (a b : ℕ) (links : List Link) (i : ℕ) → i < length links → LinksLead j a b links → LinksLead j a (end_at links i) (take (suc i) links)
 lead_to j a b [] i inside lead = absurd (omega arith)
 lead_to j a b (l ∷ links) zero inside lead = (lead.0, lead.1, refl)
@@ -123,7 +123,8 @@ least_simple j links (s, w) i k less inside same =
     omega (arith, w.least cut.0 (drop i (take k links)) cut.1, part_cheaper links i k inside)
 
 -- ---- the first that leads back
--- the first m links were passed: the position of each start, from 1 on, was kept, no two start at one number, and the last doesn't lead back
+-- the first m links were passed: the position of each start, from 1 on, was kept, no two start at one number, and the last doesn't lead
+-- back
 pub record ArePassed (n : ℕ) (links : List Link) (positions : List ℕ) (m : ℕ) : Type 0 where
   pub long : length positions ≡ n
   pub kept : (i : ℕ) → i < m → slice_index positions (start_at links i) ≡ i + 1
@@ -144,7 +145,7 @@ start_is links l i inside is = ap link_from is ∙ sym (get_or-map link_from lin
 pub end_is : (links : List Link) (l : Link) (i : ℕ) → i < length links → l ≡ get_or links i l → link_to l ≡ end_at links i
 end_is links l i inside is = ap link_to is ∙ sym (get_or-map link_to links i l 0 inside)
 
--- one more
+-- one more link
 module _ (n : ℕ) (links : List Link) (positions : List ℕ) (m : ℕ) (closed : IsClosed n links) (w : ArePassed n links positions m) (inside : m < length links) where
   pub new : slice_index positions (start_at links m) ≡ 0
   new = go (cases_eq m 0)
@@ -206,7 +207,7 @@ module _ (n : ℕ) (links : List Link) (positions : List ℕ) (m : ℕ) (closed 
           let at : slice_index positions v - 1 ≡ slice_index (set positions (start_at links m) (m + 1)) v - 1 = omega (arith, is) in
           (omega (arith, is, before.0), subst (λ (z : ℕ). start_at links z ≡ v) at before.1)
 
-  -- by what the code looks at: the link, where it starts and ends, the positions with that of its start, and among them that of its end
+  -- what the code looks at: the link, where it starts and ends, the positions with that of its start, and among them that of its end
   module _ (link : Link) (start end before : ℕ) (with_start : List ℕ) (is : link ≡ get_or links m link) (starts : start ≡ link_from link)
       (ends : end ≡ link_to link) (sets : with_start ≡ set positions start (m + 1)) (gets : before ≡ slice_index with_start end) where
     more : with_start ≡ set positions (start_at links m) (m + 1)
@@ -248,6 +249,6 @@ pub least_of_four : (j : Judged) (links : List Link) → NoneBelow j 4 → cost 
 least_of_four j links none cheap (s, cycle) =
     (s, record { cycle = cycle; least = λ t others other. omega (arith, none t others other, cheap) })
 
--- and none costs three at most, so nothing more is asked of it
+-- and none costs at most three, so nothing more is required
 pub not_short : (j : Judged) (links : List Link) → NoneBelow j 4 → AreCycle j links → IsFirstIfShort j links
 not_short j links none (s, cycle) low = absurd (omega (arith, none s links cycle, low))

@@ -1,4 +1,4 @@
--- What is decided of a history of any size.
+-- What is decided about a history of any size.
 use Rattle.std.specs.Prelude.{ℕ, ◌<◌, ◌≤◌, ◌≡◌, List}
 use Rattle.tcc_graph.specs.Levels.{Judged}
 use Rattle.tcc_graph.specs.Links.{cost}
@@ -11,13 +11,13 @@ use Rattle.tcc_large.specs.Cycles.{IsSimple}
 use Rattle.tcc_large.specs.declared.decision.Decision.{Decision}
 use Rattle.tcc_large.specs.declared.decision.Decision.TheVariants as decision
 
--- where the links cost three steps at most, they are the first of the least cycles by the rule of ties
+-- where the links cost at most three steps, they are the first of the least cycles by the rule of ties
 abbrev pub IsFirstIfShort : Judged → List Link → Type 0
 IsFirstIfShort j links = cost links ≤ 3 → (s : ℕ) × IsFirstCycle j s links
 
--- the first commit order; or the links of a least cycle, which passes no transaction twice by the law `least`, and of the first one where
--- it costs three steps at most; or those of a cycle that costs more than four steps and passes none twice, and then none costs less than
--- four
+-- the first commit order; or the links of a least cycle, which is the first one where it costs at most three steps. Or else the links of a
+-- cycle that costs more than four steps, where none costs less than four. A least cycle passes no transaction twice by the law `least`, and
+-- neither does the other one
 abbrev pub IsDecision : Judged → Decision → Type 0
 IsDecision j (decision.Order order) = IsFirstOrder j order.items
 IsDecision j (decision.Least links) = AreLeast j links.items × IsFirstIfShort j links.items

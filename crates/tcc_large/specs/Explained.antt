@@ -1,4 +1,4 @@
--- What is answered for a large snapshot at a level.
+-- The answer for a large snapshot at a level.
 use Rattle.std.specs.Prelude.{◌≡◌, []}
 use Rattle.tcc_txn.specs.Snapshots.{Sessions}
 use Rattle.tcc_reads.specs.Faults.{read_faults}
@@ -8,7 +8,7 @@ use Rattle.tcc_large.specs.Decisions.{IsDecision}
 use Rattle.tcc_large.specs.declared.answer.LargeAnswer.{LargeAnswer}
 use Rattle.tcc_graph.specs.Levels.{judged}
 
--- the history of the snapshot, all of whose reads have sources, and what is decided of it
+-- the history of the snapshot, all of whose reads have sources, and what is decided about it
 abbrev pub IsLargeAnswer : Sessions → Level → LargeAnswer → Type 0
 IsLargeAnswer s level a =
     (read_faults s ≡ []) × (a.graph ≡ history s) × IsDecision (judged (history s) level) a.decision

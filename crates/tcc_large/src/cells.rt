@@ -21,7 +21,7 @@ impl Model for Cells {
 }
 
 impl Cells {
-    /// So many values, all alike.
+    /// As many values, all alike.
     pub(crate) fn new(alloc: Global, count: usize, value: u32) -> Result<Cells, NoMemory>
         ensures { IfOk result (λ cells. cells ≡ replicate count value) }
     {
@@ -54,7 +54,7 @@ impl Cells {
         self.set(index, self.get(index).saturating_add(1));
     }
 
-    /// Lowers the value at an index by one, and says whether it is 0 by that.
+    /// Lowers the value at an index by one, and returns whether that made it 0.
     pub(crate) fn less_one(&mut self, index: u32) -> bool {
         let value = self.get(index);
         self.set(index, value.saturating_sub(1));

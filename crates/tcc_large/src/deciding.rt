@@ -30,8 +30,8 @@ fn any_cycle(alloc: Global, at: &StuckOrder<'_>) -> Result<Vec<Link>, NoMemory>
     at.cycle(alloc)
 }
 
-/// What is decided of a history in which an order stops: the first of the least cycles where one costs three steps at most; else another
-/// that passes no transaction twice, which is a least one where it costs four steps.
+/// What is decided about a history in which an order stops: the first of the least cycles where one costs at most three steps. Else it is
+/// another that passes no transaction twice, which is a least one where it costs four steps.
 fn by_cycle(alloc: Global, at: &StuckOrder<'_>) -> Result<Decision, NoMemory>
     requires { IsStuckAt at.now }
     ensures { IfOk result (IsDecision (judged_at at.now)) }
@@ -48,8 +48,8 @@ fn by_cycle(alloc: Global, at: &StuckOrder<'_>) -> Result<Decision, NoMemory>
     }
 }
 
-/// Whether more can be known of what is decided, by an order to judge by: of a cycle of four steps, which is the first of the least ones;
-/// of one of more, whether it is a least one too.
+/// Whether an order to judge by can tell more about what is decided. For a cycle of four steps that is which one is the first of the least
+/// ones; for a longer one, whether it is a least one too.
 fn wants_order(decision: &Decision) -> Result<bool, NoMemory> {
     match decision.links() {
         Some(links) => Ok(steps_of(links)? >= 4),
@@ -57,7 +57,7 @@ fn wants_order(decision: &Decision) -> Result<bool, NoMemory> {
     }
 }
 
-/// What is decided of a history by its placement: with a cycle of four steps or more comes an order of all transactions to judge by.
+/// What is decided about a history by its placement: with a cycle of at least four steps comes an order of all transactions to judge by.
 fn decided(
     alloc: Global,
     graph: &LargeGraph,
@@ -86,8 +86,8 @@ fn decided(
     }
 }
 
-/// The first commit order of a history at a level; or the links of a cycle: of a least one where it costs four steps at most, and of the
-/// first by the rule of ties wherever some cycle costs three at most. It passes no transaction twice. With a cycle of four steps or more
+/// The first commit order of a history at a level; or the links of a cycle. This is a least one where it costs at most four steps, and the
+/// first by the rule of ties wherever some cycle costs at most three. It passes no transaction twice. With a cycle of at least four steps
 /// comes an order of all transactions to judge by.
 pub fn decide(
     alloc: Global,
@@ -99,7 +99,7 @@ pub fn decide(
     decided(alloc, graph, level, place(alloc, graph, level)?)
 }
 
-/// What `decide` answers, an order by so many workers at most. Whatever their number, the order is the first one.
+/// What `decide` returns, with an order by at most this many workers. Whatever their number, the order is the first one.
 pub fn decide_by(
     rt: &(impl Threads + Sync),
     alloc: Global,

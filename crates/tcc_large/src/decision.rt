@@ -1,12 +1,12 @@
-//! What is decided of a history.
+//! What is decided about a history.
 use tcc_graph::Link;
 
-/// What is decided of a history of any size at a level.
+/// What is decided about a history of any size at a level.
 #[derive(Drop)]
 pub enum Decision {
     /// The numbers of all transactions in the first commit order.
     Order(Vec<u32>),
-    /// The links of a least cycle, in order; of the first by the rule of ties where it costs three steps at most.
+    /// The links of a least cycle, in order; of the first by the rule of ties where it costs at most three steps.
     Least(Vec<Link>),
     /// The links of a cycle that costs more than four steps and passes no transaction twice, in order, where none costs less than
     /// four.

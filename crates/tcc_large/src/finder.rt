@@ -3,7 +3,6 @@
 mod adjacency;
 mod back_edges;
 mod breadth_first;
-mod closings;
 pub(crate) mod component_order;
 mod components;
 mod cycle_links;
@@ -14,4 +13,5 @@ mod reverse_search;
 mod session_prefixes;
 mod shortest_walks;
 mod trimming;
+mod two_step_back_links;
 mod work;

@@ -1,6 +1,6 @@
-//! A cycle where Kahn's algorithm stops, found by going back from predecessor to predecessor: each that is left is held back by one
-//! that is left, until one comes again. That takes at most as many turns as there are transactions, and a breadth-first search for
-//! each derived link of the cycle: O(D (N + R)) for D derived links, N transactions and R reads.
+//! A cycle where Kahn's algorithm stops, found by going back from predecessor to predecessor: each transaction that is left is held back by
+//! one that is left, until one comes again. This takes at most as many turns as there are transactions, and a breadth-first search for each
+//! derived link of the cycle. That is O(D (N + R)) for D derived links, N transactions and R reads.
 ghost use Rattle.std.specs.Prelude.{◌≡◌, ◌<◌, ◌≤◌, ◌⊎◌, ℕ, true, false, length, slice_index, All, Contains, IfOk, MatchOption};
 ghost use Rattle.tcc_reads.specs.History.{count};
 ghost use Rattle.tcc_graph.specs.{Levels.judged, Relations.IsSessionPair, Routes.AreCycle};
@@ -89,7 +89,7 @@ impl StuckOrder<'_> {
         unreachable!()
     }
 
-    /// A transaction that is left and holds this one back: by a pair if one does, and of its session the first.
+    /// A transaction that is left and holds this one back: by a pair if one does, and in its session the first such one.
     fn one_before(&self, alloc: Global, number: u32) -> Result<u32, NoMemory>
         requires stuck { IsStuckAt self.now }
         requires left { IsLeft (judged_at self.now) self.now.stuck.now.placed.items number }

@@ -1,6 +1,6 @@
-//! What a transaction reaches by pairs, as a breadth-first tree: each that was met has the position of the one that led there, by
-//! which the walk to it is read off. Of each session those alone are looked at that weren't met by a session pair before, so it
-//! takes O(N + R) for the N transactions and R reads that it comes to.
+//! What a transaction reaches by pairs, as a breadth-first tree: each that was met has the position of the one that led there, by which the
+//! walk to it is read off. Of each session only those are looked at that weren't met by a session pair before. So it takes O(N + R) for the
+//! N transactions and R reads that it comes to.
 ghost use Rattle.std.specs.Prelude.{◌≡◌, ◌<◌, ◌≤◌, ℕ, length, All, IfOk, MatchOption, OnOk, slice_index};
 ghost use Rattle.tcc_reads.specs.History.{count};
 ghost use Rattle.tcc_graph.specs.{Relations.IsCausalPair, Relations.IsSessionPair, Walks.IsWalk};
@@ -14,9 +14,9 @@ use tcc_txn::NoMemory;
 /// What was reached from a transaction.
 #[derive(Drop)]
 pub(crate) struct Reach {
-    /// Of each transaction its position in the queue; 0 where it wasn't reached.
+    /// For each transaction its position in the queue; 0 where it wasn't reached.
     positions: Cells,
-    /// Of each number at which a session ends the first from which on all before it were met; 0 where none was.
+    /// For each number at which a session ends, the first from which on all before it were met; 0 where none was.
     covered: Cells,
     /// Where the search began, and then each transaction that was reached, with the position of the one that led there.
     queue: Vec<(u32, u32)>,
@@ -41,7 +41,7 @@ impl Reach {
         })
     }
 
-    /// The transaction at a position of the queue, if it is so long.
+    /// The transaction at a position of the queue, if it is that long.
     pub(crate) fn number(&self, position: u32) -> Option<u32>
         ensures { MatchOption result (length self.now.queue.items ≤ position)
             (λ number. (position < length self.now.queue.items) × (number ≡ number_at self.now.queue.items position)) }
@@ -125,7 +125,7 @@ impl Reach {
         self.covered.set(end, low);
     }
 
-    /// Before which number, of those from `low` to where their session ends, all from there on were met.
+    /// A number, from `low` to where the session ends, from which on all were met.
     fn uncovered(&self, low: u32, end: u32) -> u32
         requires order { low ≤ end }
         requires covered { AreCovered self.now.positions self.now.covered }

@@ -1,4 +1,4 @@
-//! The link between two transactions of which one is known to stand before the other.
+//! The link between two transactions of which one is known to come before the other.
 ghost use Rattle.std.specs.Prelude.{◌≢◌, ◌<◌, List, ℕ, IfOk, MatchOption};
 ghost use Rattle.tcc_reads.specs.History.{count};
 ghost use Rattle.tcc_graph.specs.{Levels.causally, Levels.judged, Links.MayContradict};

@@ -1,5 +1,5 @@
-//! A simple cycle out of a cycle: along its links until one ends where one of those passed starts, and without what is before that
-//! one. Of each start that was passed the position is kept, so it takes as many turns as there are links, and a cell for each
+//! A simple cycle out of a cycle: it follows the links until one ends where one of those passed starts, and leaves out what is before that
+//! one. The position of each start that was passed is kept. So this takes at most as many turns as there are links, and a cell for each
 //! transaction.
 ghost use Rattle.std.specs.Prelude.{IfOk};
 ghost use Rattle.tcc_graph.specs.{Levels.Judged, Routes.AreCycle};
@@ -10,7 +10,7 @@ use std::alloc::Global;
 use tcc_graph::Link;
 use tcc_txn::NoMemory;
 
-/// From which of the links on, and to before which one, they lead back for the first time; at numbers below a count.
+/// The first links that lead back: from which one on, and to before which one; at numbers below a count.
 fn first_return(alloc: Global, count: u32, links: &[Link]) -> Result<(usize, usize), NoMemory>
     requires { IsClosed count links.now }
     ensures { IfOk result (λ found. IsFirstReturn links.now found.0 found.1) }
@@ -27,7 +27,7 @@ fn first_return(alloc: Global, count: u32, links: &[Link]) -> Result<(usize, usi
     unreachable!()
 }
 
-/// Those of the links that lead back for the first time; at numbers below a count.
+/// The links that lead back first; at numbers below a count.
 pub(crate) fn simple_cycle(
     alloc: Global,
     count: u32,

@@ -35,13 +35,13 @@ module _ (h : History) where
     omega (arith, few, p.steps, q.steps, cost_cons k (l ∷ []), one_cost l),
   )
 
-  -- where the two aren't one, a round has two pairs at least
+  -- if the two are not one transaction, a round has at least two pairs
   pub round_of_two : (a c n : ℕ) → (c ≡ a → ⊥) → IsRound h n a c → 2 < n
   round_of_two a c n other (read, inl (few, same)) = absurd (other same)
   round_of_two a c n other (read, inr (inl (few, back))) = few
   round_of_two a c n other (read, inr (inr (few, back))) = omega (arith, few)
 
-  -- where there is no other, a pair leads to a source of the source
+  -- if no pair leads straight back, a pair leads to a source of the source
   pub third : (a c n : ℕ) → (c ≡ a → ⊥) → (IsCausalPair h c a → ⊥) → IsRound h n a c → (3 < n) × ((d : ℕ) × IsRead h d a × IsCausalPair h c d)
   third a c n other none (read, inl (few, same)) = absurd (other same)
   third a c n other none (read, inr (inl (few, back))) = absurd (none back)

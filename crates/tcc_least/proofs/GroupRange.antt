@@ -1,4 +1,4 @@
--- Of readers, each beside its source, those of one source: they stand together, and ascend.
+-- Among readers, each beside its source, those of one source are adjacent, and ascend.
 use Rattle.std.proofs.Common.{ℕ, ◌+◌, ◌-◌, ◌<◌, ◌≤◌, ◌≡◌, ◌⊎◌, inl, inr, Bool, true, false, List, length, length-drop, take, drop, get_or, sym, ap, subst, ◌∙◌, arith}
 use Rattle.std.specs.Prelude.{◌≢◌, ◌↔◌, Option, Some, None, IsTrue, zip, nat_lt, nat_le}
 use Rattle.std.specs.Option.{is_some}

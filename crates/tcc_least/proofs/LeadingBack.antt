@@ -1,4 +1,4 @@
--- Where all pairs rise, each cycle has a derived link that doesn't; and what a cycle through `init` costs.
+-- If all pairs rise, each cycle has a derived link that doesn't; and what a cycle through `init` costs.
 use Rattle.std.proofs.Common.{ℕ, zero, suc, ◌+◌, ◌<◌, ◌≤◌, ◌≡◌, ◌⊎◌, inl, inr, List, [], ◌∷◌, length, refl, subst, arith}
 use Rattle.std.specs.List.{Contains}
 use Rattle.std.proofs.lemmas.Bool.{cases_lt}
@@ -29,7 +29,7 @@ module _ (j : Judged) (rank : ℕ → ℕ) (rises : Rises j.history rank) where
   behind : (l : Link) (links : List Link) → HasLinkBack rank links → HasLinkBack rank (l ∷ links)
   behind l links (b, a, x, c, walk, there, back) = (b, a, x, c, walk, later l (link.Derived b a x c walk) links there, back)
 
-  -- links rise, each by one at least, or one of them leads back
+  -- links rise, each by at least one, or one of them leads back
   lead_up : (a b : ℕ) (links : List Link) → LinksLead j a b links → (rank a + length links ≤ rank b) ⊎ HasLinkBack rank links
   lead_up a b [] same = inl (subst (λ (z : ℕ). rank a + 0 ≤ rank z) same (omega arith))
   lead_up a b (l ∷ links) (from, is, rest) = go (rises_or_back l links is) (lead_up (link_to l) b links rest)
@@ -64,7 +64,7 @@ module _ (j : Judged) (none : NoneIntoInit j.history) where
       go on (inl more) = on more
       go on (inr none) = into_init l n is (omega (arith, none)) (omega (arith, few, cost_cons l links))
 
-  -- a cycle from `init` has a reason against it, of a walk of two steps less at most
+  -- a cycle from `init` has a reason against `init`, whose walk is at least two steps shorter than the cycle
   pub init_reason : (n : ℕ) (links : List Link) → IsCycle j 0 links → cost links ≤ n + 2 → HasReasonAgainstInit j n
   init_reason n [] (some, lead) few = absurd (omega (arith, some))
   init_reason n (l ∷ links) (some, (from, is, rest)) few = go (cases_lt 0 (link_to l))

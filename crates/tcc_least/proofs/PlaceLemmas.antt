@@ -12,7 +12,7 @@ module _ (h : History) where
   pub better_on : (first second third : Option (ℕ × ℕ)) → IsAsGood h first second → IsAsGood h second third → IsAsGood h first third
   better_on first second third p q = record { sound = λ s. q.sound (p.sound s); kept = λ k l f. q.kept k l (p.kept k l f) }
 
-  -- the least of what was found and one place more
+  -- the least of what was found and one more place
   pub one_more : (best new : Option (ℕ × ℕ)) (b a : ℕ) → IsReturn h b a → (new ≡ best) ⊎ (new ≡ Some (b, a))
       → ((k l : ℕ) → IsFoundUpTo best k l → IsFoundUpTo new k l) → IsAsGood h best new
   one_more best new b a is either kept = record { sound = sound either; kept = kept }

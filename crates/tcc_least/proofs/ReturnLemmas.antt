@@ -1,4 +1,4 @@
--- Derived links of two steps with a pair back, by the loops that look for them.
+-- Derived links of two steps with a pair back, as the loops find them.
 use Rattle.std.proofs.Common.{ℕ, ◌+◌, ◌<◌, ◌≤◌, ◌≡◌, ◌==◌, ◌⊎◌, inl, inr, true, List, [], length, map, get_or, refl, sym, ap, subst, ◌∙◌, arith, below_more}
 use Rattle.std.specs.Prelude.{◌≢◌, Option, Some, None, MatchOption, slice_index, slice_index_or}
 use Rattle.std.specs.List.{Contains}
@@ -21,7 +21,7 @@ use Rattle.tcc_least.proofs.Listed.{pair_at, at_pair}
 use Rattle.tcc_least.proofs.ReadLemmas.{AreReadsAt, is_read, read_is}
 use Rattle.tcc_least.proofs.Sessions.{not_itself}
 
--- who overwrites what c reads from a, between a and c
+-- which writer overwrites what c reads from a, between a and c
 abbrev pub IsFirstWriter : History → ℕ → List ℕ → ℕ → Option ℕ → Type 0
 IsFirstWriter h a x c found =
     MatchOption found ((b : ℕ) → IsWriterBetween h a x c b → ⊥) (λ b. IsWriterBetween h a x c b × ((d : ℕ) → IsWriterBetween h a x c d → b ≤ d))
@@ -29,7 +29,7 @@ IsFirstWriter h a x c found =
 -- ---- one read, and the session of its reader
 module _ (h : History) (first end c a : ℕ) (x : List ℕ) (session : IsSession h first end) (from : first ≤ c) (within : c < end)
     (read : IsReadsPair h a c x) where
-  -- what stands before c in its session
+  -- what is before c in its session
   in_session : (b : ℕ) → 0 < b → IsSessionPair h b c → (first ≤ b) × (b < c)
   in_session b some p = (session.before b c some from within).0 p
 
@@ -74,7 +74,7 @@ module _ (h : History) (first end c a : ℕ) (x : List ℕ) (session : IsSession
   past_reader some high b w =
       let l = in_session b w.0 w.3 in let m = (session.before a b some l.0 (omega (arith, l.1))).0 w.2 in omega (arith, l.1, m.1)
 
--- a place up to this one is up to a later one of the same end
+-- what was found up to a place was found up to a later one with the same end
 pub up_to_later : (best : Option (ℕ × ℕ)) (b d a : ℕ) → b ≤ d → IsFoundUpTo best b a → IsFoundUpTo best d a
 up_to_later None b d a up found = found
 up_to_later (Some place) b d a up (inl less) = inl (omega (arith, less))
@@ -89,7 +89,7 @@ module _ (h : History) where
   between_return a c b x read w =
       ((x, c, ((λ same. not_itself h a (subst (λ (z : ℕ). IsSessionPair h a z) same w.2)), read, w.1), inl w.3), inl w.2)
 
--- ---- what the loops keep, of the first n reads of c
+-- ---- what the loops keep for the first n reads of c
 module _ (h : History) (c : ℕ) (reads : List (ℕ × ℕ)) where
   -- transactions between source and reader
   abbrev pub AreBetween : ℕ → Option (ℕ × ℕ) → Type 0
@@ -97,13 +97,13 @@ module _ (h : History) (c : ℕ) (reads : List (ℕ × ℕ)) where
       (k : ℕ) → k < n → (b : ℕ) → IsWriterBetween h (slice_index_or reads k (0, 0)).1 (key_at h (slice_index_or reads k (0, 0)).0) c b
       → IsFoundUpTo least b (slice_index_or reads k (0, 0)).1
 
-  -- sources of the reader, beside one read
+  -- sources of the reader that overwrite one read
   abbrev pub AreThroughRead : ℕ → List ℕ → ℕ → Option (ℕ × ℕ) → Type 0
   AreThroughRead a x n least =
       (k : ℕ) → k < n → MayContradict h (slice_index_or reads k (0, 0)).1 a x c × IsCausalPair h a (slice_index_or reads k (0, 0)).1
       → IsFoundUpTo least (slice_index_or reads k (0, 0)).1 a
 
-  -- and beside each
+  -- and those that overwrite any of its reads
   abbrev pub AreThrough : ℕ → Option (ℕ × ℕ) → Type 0
   AreThrough n least =
       (k : ℕ) → k < n → (b : ℕ) → MayContradict h b (slice_index_or reads k (0, 0)).1 (key_at h (slice_index_or reads k (0, 0)).0) c → IsRead h b c
@@ -115,13 +115,13 @@ module _ (h : History) (c : ℕ) (reads : List (ℕ × ℕ)) where
       (k : ℕ) → k < n → (d : ℕ) → MayContradict h c (slice_index_or reads k (0, 0)).1 x d → IsSessionPair h c d
       → IsFoundUpTo least c (slice_index_or reads k (0, 0)).1
 
--- of the first n keys that b writes
+-- for the first n keys that b writes
 module _ (h : History) (b : ℕ) (writes : List ℕ) where
   abbrev pub AreStale : ℕ → Option (ℕ × ℕ) → Type 0
   AreStale n least =
       (k : ℕ) → k < n → (a d : ℕ) → MayContradict h b a (key_at h (slice_index writes k)) d → IsSessionPair h b d → IsRead h a b → IsFoundUpTo least b a
 
--- of the first n reads of `init`
+-- for the first n reads of `init`
 module _ (h : History) (reads : List (ℕ × ℕ)) where
   abbrev pub ArePastInitial : ℕ → Option (ℕ × ℕ) → Type 0
   ArePastInitial n least =
@@ -133,7 +133,7 @@ module _ (h : History) (c : ℕ) (reads : List (ℕ × ℕ)) (are : AreReadsAt h
       → IsReadsPair h (slice_index_or reads k (0, 0)).1 c (key_at h (slice_index_or reads k (0, 0)).0)
   read_at k inside = is_read h c reads are (slice_index_or reads k (0, 0)) (Contains-get_or reads k (0, 0) inside) below
 
-  -- the place of a read among them
+  -- the index of a read among them
   pub place_of : (a : ℕ) (x : List ℕ) → IsReadsPair h a c x
       → (k : ℕ) × (k < length reads) × ((slice_index_or reads k (0, 0)).1 ≡ a) × (key_at h (slice_index_or reads k (0, 0)).0 ≡ x)
   place_of a x read =
@@ -149,7 +149,7 @@ module _ (h : History) (c : ℕ) (reads : List (ℕ × ℕ)) (are : AreReadsAt h
       subst (λ (z : ℕ). IsFoundUpTo least b z) w.2
       (found w.0 (omega (arith, w.1)) b (some, writer, subst (λ (z : ℕ). IsSessionPair h z b) (sym w.2) back, pair))
 
-  -- ---- sources of the reader, beside one read
+  -- ---- sources of the reader that overwrite one read
   pub through_read_all : (a : ℕ) (x : List ℕ) (n : ℕ) (least : Option (ℕ × ℕ)) → length reads ≤ n → AreThroughRead h c reads a x n least
       → (b : ℕ) → MayContradict h b a x c → IsRead h b c → IsCausalPair h a b → IsFoundUpTo least b a
   through_read_all a x n least all found b against (y, read) pair =
@@ -158,7 +158,7 @@ module _ (h : History) (c : ℕ) (reads : List (ℕ × ℕ)) (are : AreReadsAt h
       (found w.0 (omega (arith, w.1))
       (subst (λ (z : ℕ). MayContradict h z a x c) (sym w.2) against, subst (λ (z : ℕ). IsCausalPair h a z) (sym w.2) pair))
 
-  -- ---- and beside each
+  -- ---- and those that overwrite any of its reads
   pub through_all : (n : ℕ) (least : Option (ℕ × ℕ)) → length reads ≤ n → AreThrough h c reads n least → (b a : ℕ) → IsThrough h c b a → IsFoundUpTo least b a
   through_all n least all found b a ((x, against), read, pair) =
       let w = place_of a x against.1 in
@@ -200,7 +200,7 @@ module _ (h : History) (b : ℕ) (writes : List ℕ) (value : map (key_at h) wri
       let w = place_of_key x some against.2 in
       found w.0 (omega (arith, w.1)) a d (subst (λ (z : List ℕ). MayContradict h b a z d) (sym w.2) against) pair read
 
--- ---- who reads from a
+-- ---- the readers of a
 -- none of the first n readers comes after `init`
 abbrev pub AreInitial : List ℕ → ℕ → Type 0
 AreInitial readers n = (k : ℕ) → k < n → 0 < slice_index readers k → ⊥
@@ -260,7 +260,7 @@ module _ (h : History) where
     stale = below_more _ _ (λ b low a is. r.kept b a (q.kept b a (p.kept b a (done.stale b low a is)))) stale;
   }
 
-  -- whatever closes is of one of the kinds
+  -- each one is of one of the kinds
   pub all_found : (n : ℕ) (least : Option (ℕ × ℕ)) → count h ≤ n → AreDone h n least → (b a : ℕ) → IsReturn h b a → IsFoundUpTo least b a
   all_found n least all done b a ((x, c, against, inr read), back) = done.through c (omega (arith, against.1.1)) b a ((x, against), read, back)
   all_found n least all done b a ((x, c, against, inl pair), inr read) = done.stale b (omega (arith, against.2.0)) a ((x, c, against, pair), read)

@@ -1,4 +1,4 @@
--- Rounds of pairs, found by a look at each read.
+-- Rounds of pairs, found by a test of each read.
 use Rattle.std.proofs.Common.{ℕ, ◌<◌, ◌≤◌, ◌≡◌, ◌⊎◌, inl, inr, true, List, [], length, get_or, sym, ap, subst, ◌∙◌, arith}
 use Rattle.std.specs.Prelude.{slice_index, slice_index_or}
 use Rattle.std.proofs.lemmas.Bool.{cases_lt}
@@ -16,7 +16,7 @@ use Rattle.tcc_least.proofs.Listed.{pair_at, at_pair, rises}
 use Rattle.tcc_least.proofs.ReadLemmas.{AreReadsAt, is_read, read_is}
 
 -- ---- a pair to a source
--- a pair leads from u to the source of none of the first n reads
+-- no pair leads from u to the source of one of the first n reads
 abbrev pub NoneLeads : History → ℕ → List (ℕ × ℕ) → ℕ → Type 0
 NoneLeads h u reads n = (k : ℕ) → k < n → causal_pair h u (slice_index_or reads k (0, 0)).1 ≡ true → ⊥
 
@@ -35,7 +35,7 @@ module _ (h : History) (u a : ℕ) (reads : List (ℕ × ℕ)) (are : AreReadsAt
       (subst (λ (z : ℕ). causal_pair h u z ≡ true) (sym (ap (λ (r : ℕ × ℕ). r.1) at ∙ w.2)) (pair_from_kinds h u d pair))
 
 -- ---- the readers of a
--- none of the first k readers stands in a round of fewer than n pairs
+-- none of the first k readers is in a round of fewer than n pairs
 abbrev pub NoneBack : History → ℕ → ℕ → List ℕ → ℕ → Type 0
 NoneBack h n a readers k = (i : ℕ) → i < k → IsBack h n a (slice_index readers i) → ⊥
 

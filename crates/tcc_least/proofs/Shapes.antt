@@ -1,4 +1,4 @@
--- What costs three steps at most has one of the shapes, and what has one of them is a cycle.
+-- A cycle that costs at most three steps has one of the shapes, and what has one of them is a cycle.
 use Rattle.std.proofs.Common.{ℕ, ◌+◌, ◌<◌, ◌≤◌, ◌≡◌, ◌⊎◌, inl, inr, List, [], ◌∷◌, refl, sym, ◌∙◌, subst, arith}
 use Rattle.std.specs.Prelude.{◌≢◌}
 use Rattle.std.proofs.lemmas.Bool.{cases_lt}
@@ -41,7 +41,7 @@ module _ (h : History) (n : ℕ) where
   three_pairs a b c few (inr p) (inl q) (inl r) = two_pairs b a (omega arith) (inl (session_on h b c a q r)) (inr p)
   three_pairs a b c few (inr p) (inl q) (inr r) = (a, b, (p, inr (inr (few, (c, r, inl q)))))
 
--- ---- links by what they cost
+-- ---- links by cost
 -- a derived link of two steps from b to a
 abbrev pub IsShort : History → ℕ → ℕ → Type 0
 IsShort h b a = (x : List ℕ) × (c : ℕ) × MayContradict h b a x c × IsCausalPair h b c
@@ -91,7 +91,7 @@ module _ (j : Judged) where
       sum : link_cost l + link_cost m < n
       sum = omega (arith, few, cost_cons l (m ∷ []), one_cost m)
 
-      -- what holds from the one end of m to the other holds from the end of l to its start
+      -- what holds from the start of m to its end holds from the end of l to its start
       turned : (P : ℕ → ℕ → Type 0) → P (link_from m) (link_to m) → P (link_to l) (link_from l)
       turned P p = subst (λ (z : ℕ). P (link_to l) z) back (subst (λ (z : ℕ). P z (link_to m)) on p)
 

@@ -1,4 +1,4 @@
--- The first of ascending numbers within bounds, by where those below the lower bound end; and the writers of a key.
+-- The first of ascending numbers within bounds, from the end of those below the lower bound; and the writers of a key.
 use Rattle.std.proofs.Common.{ℕ, ◌<◌, ◌≤◌, ◌≡◌, ◌⊎◌, inl, inr, Bool, true, false, List, length, get_or, refl, subst, ◌∙◌, arith}
 use Rattle.std.specs.Prelude.{Some, None, nat_lt}
 use Rattle.std.specs.List.{Contains}
@@ -14,7 +14,7 @@ use Rattle.tcc_least.proofs.Listed.{ascending}
 
 module _ (ns : List ℕ) (low i : ℕ) (rising : IsNonDecreasing ns) (point : IsPartitionPoint (λ n. nat_lt n low ≡ true) (λ n. nat_lt n low ≡ false) ns i)
     (bound : i ≤ length ns) where
-  -- a number of the list that isn't below the lower bound is there from i on
+  -- a number of the list that isn't below the lower bound is at an index from i on
   there : (n : ℕ) → Contains ns n → low ≤ n → (k : ℕ) × (i ≤ k) × (k < length ns) × (get_or ns k 0 ≡ n)
   there n (k, inside, is) from = (k, past (cases_lt k i), inside, at)
     where

@@ -81,6 +81,6 @@ overtaken-return = (
   inr (x, (omega arith, omega arith, (0, omega arith, refl))),
 )
 
--- the other way round there is none: a/1 is no other writer than the source
+-- there is none from a/1 to itself: a/1 is the source itself
 pub overtaken-itself : IsReturn overtaken 1 1 → ⊥
 overtaken-itself ((z, c, against, pair), back) = against.0 refl

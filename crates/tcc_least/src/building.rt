@@ -1,4 +1,4 @@
-//! A least cycle, with its links, where one costs three steps at most.
+//! A least cycle, with its links, if one costs at most three steps.
 ghost use Rattle.std.specs.Prelude.{◌≡◌, ◌≤◌, ◌<◌, ◌↔◌, ℕ, List, min, length, IsTrue, IfOk, MatchOption};
 ghost use Rattle.tcc_reads.specs.History.{count};
 ghost use Rattle.tcc_graph.specs.{Relations.IsReadsPair, Relations.IsCausalPair, Keys.IsWriter, Levels.Judged, Levels.judged, Links.MayContradict, Links.cost, Routes.IsLeastCycle, declared.level.Level.Level};
@@ -69,8 +69,8 @@ fn overwrites(graph: &LargeGraph, from: u32, reader: u32, key: &Name) -> bool
     graph.is_writer(from, key) && graph.causal(from, reader)
 }
 
-/// A reader of a transaction, and a key that it reads there, which another transaction overwrites, from which a pair leads to the
-/// reader.
+/// A reader of a transaction, and a key that it reads there which another transaction overwrites. A pair leads from that one
+/// to the reader.
 fn overwritten(graph: &LargeGraph, from: u32, to: u32) -> (u32, Name)
     requires { (x : List ℕ) × (c : ℕ) × MayContradict graph.now from to x c × IsCausalPair graph.now from c }
     ensures read { IsReadsPair graph.now to result.0 result.1 }
@@ -138,8 +138,8 @@ fn links_at(alloc: Global, graph: &LargeGraph, place: ShortCycle) -> Result<Vec<
     }
 }
 
-/// The links of a least cycle, where one costs less than `cost` steps, for costs up to 4, and for higher ones where one costs less than
-/// 4; none exactly where no cycle costs less. It is a least cycle at each level.
+/// The links of a least cycle, if one costs less than `cost` steps, or less than 4 if `cost` is greater. There are none
+/// exactly if no cycle costs less than that. The cycle is a least one at each level.
 pub fn least_short(
     alloc: Global,
     graph: &LargeGraph,

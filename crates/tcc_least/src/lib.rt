@@ -1,5 +1,5 @@
-//! Whether a cycle costs less than a given cost, looked for locally, in a history of any size and with no search: up to three steps
-//! a cycle has few shapes, and each shows at one place.
+//! Whether a cycle costs less than a given cost, found locally, in a history of any size and without a search. Up to three
+//! steps a cycle has few shapes, and each shows at one place.
 #![tactic(auto)]
 
 mod building;

@@ -1,6 +1,6 @@
-//! Derived links of two steps with a pair back. Each is one of three kinds: the overwriting transaction stands between source and
-//! reader in session order; or the reader reads from it; or it reads from the source, and the reader follows it in its session. Of R
-//! reads and W writes, each transaction with D of them at most: (R + W) * D look-ups by halving.
+//! Derived links of two steps with a pair back. Each is one of three kinds. The overwriting transaction is between source and
+//! reader in session order. Or the reader reads from it. Or it reads from the source, and the reader follows it in its
+//! session. With R reads and W writes, at most D of them in each transaction, it takes (R + W) * D look-ups by binary search.
 ghost use Rattle.std.specs.Prelude.{◌≡◌, ◌≢◌, ◌≤◌, ◌<◌, ◌⊎◌, ◌↔◌, ◌+◌, ℕ, List, length, Contains, Some, None, IsTrue, MatchOption, nat_lt, nat_le, true, false, zip};
 ghost use Rattle.std.specs.List.Sorted.{IsNonDecreasing, IsPartitionPoint};
 ghost use Rattle.std.specs.Ordering.{nat_cmp};
@@ -54,7 +54,7 @@ fn first_within(numbers: &[u32], low: u32, high: u32) -> Option<u32>
     if number < high { Some(number) } else { None }
 }
 
-/// Where the session of a number begins and ends: the last one known, or the one that begins here.
+/// The range of the session of a number: the last one known, or the one that begins at the number.
 fn session_at(graph: &LargeGraph, session: (u32, u32), number: u32) -> (u32, u32)
     requires number { (0 < number) × (number < count graph.now) × (session.0 ≤ number) × (number ≤ session.1) }
     requires cut { IsCut graph.now session.1 }
@@ -71,7 +71,7 @@ fn session_at(graph: &LargeGraph, session: (u32, u32), number: u32) -> (u32, u32
     (number, end)
 }
 
-/// The first transaction that overwrites what is read and stands between source and reader in session order.
+/// The first transaction that overwrites what is read and is between source and reader in session order.
 fn first_between(
     graph: &LargeGraph,
     session: (u32, u32),
@@ -100,7 +100,7 @@ fn first_between(
     first_within(writers, source + 1, reader)
 }
 
-/// The least place so far, and the first of transactions that overwrite what is read and stand between source and reader.
+/// The least place so far, and the first of transactions that overwrite what is read and are between source and reader.
 fn between_read(
     graph: &LargeGraph,
     session: (u32, u32),
@@ -121,7 +121,7 @@ fn between_read(
     }
 }
 
-/// The least place so far, and those of transactions between the source of a read of the reader and itself.
+/// The least place so far, and the places of transactions between the source of a read of the reader and the reader.
 fn between(
     graph: &LargeGraph,
     session: (u32, u32),
@@ -163,7 +163,7 @@ fn is_through(graph: &LargeGraph, read: (u32, u32), writer: u32) -> bool
     graph.causal(read.1, writer)
 }
 
-/// The least place so far, and those where a source of the reader overwrites what it reads here.
+/// The least place so far, and those at which a source of the reader overwrites this read.
 fn through_read(
     graph: &LargeGraph,
     reader: u32,
@@ -185,7 +185,7 @@ fn through_read(
     least
 }
 
-/// The least place so far, and those where a source of the reader overwrites what it reads from another.
+/// The least place so far, and those at which a source of the reader overwrites one of its reads from another source.
 fn through(graph: &LargeGraph, reader: u32, best: Option<(u32, u32)>) -> Option<(u32, u32)>
     requires { reader < count graph.now }
     ensures more { IsAsGood graph.now best result }
@@ -198,7 +198,7 @@ fn through(graph: &LargeGraph, reader: u32, best: Option<(u32, u32)>) -> Option<
     least
 }
 
-/// How many of ascending numbers are no greater than `high`.
+/// How many of ascending numbers are at most `high`.
 fn count_up_to(numbers: &[u32], high: u32) -> usize
     requires { IsNonDecreasing numbers.now }
     ensures bound { result ≤ length numbers.now }
@@ -207,7 +207,8 @@ fn count_up_to(numbers: &[u32], high: u32) -> usize
     numbers.partition_point(|number| *number <= high)
 }
 
-/// Of readers, each beside its source, whether one after `writer` and before `end` reads from a source other than `writer`.
+/// Whether one of these readers, each beside its source, comes after `writer` and before `end`, and reads from a `source`
+/// other than `writer`.
 fn is_read_later(sources: &[u32], readers: &[u32], source: u32, writer: u32, end: u32) -> bool
     requires long { length sources.now ≡ length readers.now }
     requires order { AreInOrder nat_cmp sources.now readers.now }
@@ -278,7 +279,7 @@ fn is_source(graph: &LargeGraph, source: u32) -> bool
     false
 }
 
-/// The least of places where `init` reads: it overwrites whatever others read from its source.
+/// The least of the places of reads of `init`: it overwrites whatever others read from its source.
 fn initial(graph: &LargeGraph) -> Option<(u32, u32)>
     requires { 0 < count graph.now }
     ensures sound { IsSound graph.now result }

@@ -1,5 +1,5 @@
-//! Rounds of up to three pairs, by a look at each reads-from pair: is there a way back from the reader of one pair, or of two. Of R
-//! reads, each with D sources at most: R * D look-ups by halving.
+//! Rounds of up to three pairs, by a test of each reads-from pair: whether one or two pairs lead back from the reader. With R
+//! reads, each with at most D sources, it takes R * D look-ups by binary search.
 ghost use Rattle.std.specs.Prelude.{◌≡◌, ◌≤◌, ◌<◌, ◌↔◌, ℕ, IsTrue, MatchOption};
 ghost use Rattle.tcc_reads.specs.History.{count};
 ghost use Rattle.tcc_graph.specs.Relations.{IsCausalPair};
@@ -22,7 +22,7 @@ fn leads_to_source(graph: &LargeGraph, from: u32, to: u32) -> bool
     false
 }
 
-/// Whether a transaction and a reader of it stand in a round of fewer than `below` pairs.
+/// Whether a transaction and a reader of it are in a round of fewer than `below` pairs.
 fn is_back(graph: &LargeGraph, below: u64, source: u32, reader: u32) -> bool
     requires source { source < count graph.now }
     requires reader { reader < count graph.now }
@@ -43,7 +43,7 @@ fn is_back(graph: &LargeGraph, below: u64, source: u32, reader: u32) -> bool
     below > 3 && leads_to_source(graph, reader, source)
 }
 
-/// The first reader of a transaction that stands in a round of fewer than `below` pairs with it.
+/// The first reader of a transaction that is in a round of fewer than `below` pairs with it.
 fn first_reader(graph: &LargeGraph, below: u64, source: u32) -> Option<u32>
     requires { source < count graph.now }
     ensures { MatchOption result ((c : ℕ) → IsRound graph.now below source c → ⊥)

@@ -7,24 +7,24 @@ use crate::returning::first_return;
 use crate::rounds::first_round;
 use tcc_graph::LargeGraph;
 
-/// The place of a cycle that costs three steps at most.
+/// The place of a cycle that costs at most three steps.
 #[derive(Clone, Copy, Debug, PartialEq, Eq)]
 pub enum ShortCycle {
-    /// Three pairs at most lead round, and in one of them `to` reads from `from`.
+    /// At most three pairs lead round, and in one of them `to` reads from `from`.
     Round { from: u32, to: u32 },
     /// A derived link of two steps leads from `from` to `to`, and a pair leads back.
     Return { from: u32, to: u32 },
 }
 
-/// The cost, or 4 where it is more.
+/// The cost, or 4 if it is more.
 pub(crate) fn up_to_four(cost: u64) -> u64
     ensures { result ≡ min cost 4 }
 {
     if cost < 4 { cost } else { 4 }
 }
 
-/// The first place of a cycle that costs less than `cost` steps, for costs up to 4, and for higher ones the first of one that costs
-/// less than 4. There is none exactly where no cycle costs less, at each level. No memory is taken.
+/// The first place of a cycle that costs less than `cost` steps, or less than 4 if `cost` is greater. There is none exactly if
+/// no cycle costs less than that, at each level. No memory is allocated.
 pub fn short_cycle(graph: &LargeGraph, cost: u64) -> Option<ShortCycle>
     ensures place { MatchOption result (Unit {0}) (IsFirstShort graph.now (min cost 4)) }
     ensures cycle { (level : Level) → MatchOption result (NoneBelow (judged graph.now level) (min cost 4))

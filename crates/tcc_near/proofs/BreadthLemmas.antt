@@ -18,7 +18,7 @@ use Rattle.tcc_near.specs.private.Breadth.{IsWithin, IsMarked, IsBoundFrom, IsLe
 use Rattle.tcc_near.proofs.Walks.{within_more, within_one, within_one_from, within_pair, IsStepAfter, last_step, within_closed, within_below, shortest_at}
 use Rattle.tcc_near.specs.declared.walk_lengths.TheConstants.{NONE}
 
--- what stands in a row: none, or a number
+-- what a row holds: none, or a number
 abbrev pub Read : List ℕ → ℕ → Type 0
 Read row b = ((slice_index row b ≡ NONE) × (least_in row b ≡ None)) ⊎ ((slice_index row b ≢ NONE) × (least_in row b ≡ Some (slice_index row b)))
 
@@ -45,7 +45,7 @@ known h a n row b searched below some = go (read row b)
     go (inl r) = absurd (some r.0)
     go (inr r) = subst (λ (d : Option ℕ). IsLengthWithin h a n b d) r.1 (searched.exact b below)
 
--- a distance that stands in a row
+-- a distance in a row
 distance_is : (h : History) (a n : ℕ) (row : List ℕ) (b d : ℕ) → slice_index row b ≡ d → d < NONE → d ≤ n → IsShortest (causally h) a b d
     → IsLengthWithin h a n b (least_in row b)
 distance_is h a n row b d is small few shortest = go (read row b)
@@ -138,7 +138,7 @@ marked_more h a n row marks new IsLast searched marked some small lasts below_al
         let from = within_below h a n u within in
         by b u below p from (known h a n row u searched from (λ e. further h a n row u searched from e within)) (cases_lt (slice_index row u) n)
 
--- a row of which nothing is further away than n is whole
+-- a row in which nothing is further away than n is complete
 pub row_done : (h : History) (a n : ℕ) (row : List ℕ) → IsSearched h a n row → n ≤ count h → ((b : ℕ) → IsReached h a b → IsWithin h a n b)
     → HasLengths (causally h) a row
 row_done h a n row searched few near = record {
@@ -158,7 +158,7 @@ row_done h a n row searched few near = record {
         let same : slice_index row b ≡ d = cc in
         omega (arith, (known h a n row b searched below r.0).0)
 
--- where nothing that is marked wants a number, the search has ended
+-- if nothing that is marked lacks a number, the search has ended
 pub row_at_end : (h : History) (a n : ℕ) (row new : List ℕ) (marks : List ℕ) → IsSearched h a n row → IsMarked h a (n + 1) marks → n + 1 ≤ count h
     → ((b : ℕ) → is_marked marks b ≡ true → slice_index row b ≢ NONE) → IsSearched h a (n + 1) new → HasLengths (causally h) a new
 row_at_end h a n row new marks searched marked few none round =
@@ -172,7 +172,7 @@ row_at_end h a n row new marks searched marked few none round =
         let walk = is.1.attained in
         (walk.0, walk.1.0, omega (arith, is.0, walk.2))
 
--- where each has a number, the search has ended
+-- if each has a number, the search has ended
 pub row_full : (h : History) (a n : ℕ) (row : List ℕ) → IsSearched h a n row → n ≤ count h → ((b : ℕ) → b < length row → slice_index row b ≢ NONE)
     → HasLengths (causally h) a row
 row_full h a n row searched few all = row_done h a n row searched few near
@@ -184,7 +184,7 @@ row_full h a n row searched few all = row_done h a n row searched few near
         let walk = is.1.attained in
         (walk.0, walk.1.0, omega (arith, is.0, walk.2))
 
--- where each that may be reached has a number, the search has ended
+-- if each that can be reached has a number, the search has ended
 pub row_covered : (h : History) (a n : ℕ) (row bound : List ℕ) → IsSearched h a n row → n ≤ count h → IsBoundFrom h a bound
     → ((b : ℕ) → b < length bound → slice_index bound b ≢ NONE → slice_index row b ≢ NONE) → HasLengths (causally h) a row
 row_covered h a n row bound searched few is all = row_done h a n row searched few near
@@ -206,7 +206,7 @@ bound_all h a n long = record { long = length-replicate n 0 ∙ long; reached = 
         let zero_here : slice_index (replicate n 0) b ≡ 0 = get_or-replicate n b 0 0 (omega (arith, below, long)) in
         absurd (omega (arith, zero_here, same))
 
--- what has a number keeps it in a round, so what is closed stays so
+-- what has a number keeps it in a round, so what is closed stays closed
 pub closed_more : (row new marks bound : List ℕ) (d first : ℕ) → d < NONE → ((b : ℕ) → slice_index new b ≡ numbered row marks d b)
     → ((b : ℕ) → b < first → slice_index bound b ≢ NONE → slice_index row b ≢ NONE)
     → (next : ℕ) → ((b : ℕ) → first ≤ b → b < next → slice_index bound b ≢ NONE → slice_index new b ≢ NONE)
@@ -217,11 +217,11 @@ closed_more row new marks bound d first small each before next after b below som
     go (inl early) = λ none. before b early some (sym (numbered_kept row marks d b (before b early some)) ∙ (sym (each b) ∙ none))
     go (inr late) = after b late below some
 
--- whether a distance is none, as a number
+-- whether there is no distance, as a number
 abbrev without : ℕ → ℕ
 without d = cond (eqb d NONE) 1 0
 
--- where none is without a distance, each has one
+-- if none is without a distance, each has one
 pub all_numbered : (row : List ℕ) → unnumbered row ≡ 0 → (b : ℕ) → b < length row → slice_index row b ≢ NONE
 all_numbered row none b l e =
     let less = sum_by-set without row b 0 0 l in
@@ -258,7 +258,7 @@ row_of_steps h a marks row marked long each = record {
         omega arith
     short b n to some false at (inr r) = absurd (r.0 at)
 
--- rows that are right one by one are the table
+-- rows that are right one by one make the table
 pub near_from_rows : (h : History) (level : Level) (rows : List (List ℕ)) → HaveLengths (judged h level) rows
     → IsNearOf (judged h level) (record { level = level; rows = rows })
 near_from_rows h level rows have = record {

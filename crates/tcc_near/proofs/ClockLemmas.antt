@@ -20,7 +20,7 @@ none_below h t session last none = record {
   greatest = λ b low behind. absurd (omega (arith, behind.committed));
 }
 
--- one more transaction that does not stand behind, or not in this session
+-- one more transaction that does not reach it, or is not in this session
 pub last_kept : (h : History) (t session n last : ℕ) → IsLastBelow h t session n last → (IsBehind h t session n → ⊥) → IsLastBelow h t session (n + 1) last
 last_kept h t session n last before not = record {
   attained = before.attained;
@@ -49,7 +49,7 @@ last_raised h t session n last before behind = record {
     which (inr more) (inl none) = let e : max (place h n) last ≡ 0 = omega arith in inl e
     which (inr more) (inr (b, is, at)) = let e : place h b ≡ max (place h n) last = omega arith in inr (b, is, e)
 
--- nothing stands behind yet
+-- nothing reaches it yet
 pub lasts_at_start : (h : History) (session n : ℕ) → n ≡ count h → AreLastsBelow h session 1 (replicate n 0)
 lasts_at_start h session n long = record {
   long = length-replicate n 0 ∙ long;
@@ -87,7 +87,7 @@ lasts_raised h near session n row new is before some below owned same each = rec
         (last_raised h t session n (slice_index row t) (before.exact t to)
         record { committed = some; below = below; owned = owned; reached = (walk.0, walk.1.0) })
 
--- all transactions were looked at
+-- all transactions were examined
 pub lasts_whole : (h : History) (session n : ℕ) (row : List ℕ) → count h ≤ n → AreLastsBelow h session n row → AreLasts h session row
 lasts_whole h session n row all is = record {
   long = is.long;
@@ -95,7 +95,7 @@ lasts_whole h session n row all is = record {
       λ t below. record { attained = (is.exact t below).attained; greatest = λ b behind. (is.exact t below).greatest b (omega (arith, behind.below)) behind };
 }
 
--- the rows of sessions, turned round, are the clocks
+-- the rows of sessions, transposed, are the clocks
 pub clocks_from_lasts : (h : History) (lasts rows : List (List ℕ)) → HaveLasts h lasts → length rows ≡ count h
     → ((t : ℕ) (d : List ℕ) → t < count h → get_or rows t d ≡ map (λ row. slice_index row t) lasts) → IsClocksOf h rows
 clocks_from_lasts h lasts rows are long each = record {

@@ -16,7 +16,7 @@ use Rattle.tcc_near.specs.declared.walk_lengths.TheConstants.{NONE}
 use Rattle.tcc_bits.proofs.Lists.{nothing_in, one_of_taken, still_taken, last_taken}
 
 -- ---- spreading
--- nothing led on yet
+-- nothing has led on yet
 pub led_none : (h : History) (old fresh : List ℕ) (b : ℕ) → (is_marked old b ≡ true) ↔ IsLedTo h old (Contains (take 0 fresh)) b
 led_none h old fresh b = (inl, back)
   where
@@ -181,7 +181,7 @@ module _ (row marks seen fresh : List ℕ) (inside : (b : ℕ) → is_marked mar
     round now long joined fewer = record { each = numbered_so; fresh = fresh_is; seen = seen_so now long joined; fewer = fewer }
 
 module _ {marks old new seen fresh : List ℕ} {distance : ℕ} (is : IsRound marks old new seen fresh distance) where
-  -- where there are no new ones, all that is marked had a distance
+  -- if there are no new ones, all that is marked had a distance
   pub none_fresh : length fresh ≡ 0 → (b : ℕ) → is_marked marks b ≡ true → slice_index old b ≢ NONE
   none_fresh empty b mark none = let c = (is.fresh b).1 (mark, none) in omega (arith, c.1, empty)
 
@@ -201,7 +201,7 @@ module _ {marks old new seen fresh : List ℕ} {distance : ℕ} (is : IsRound ma
       go there (inl none) false mark = absurd (far (sym (is.each u ∙ numbered_unmarked old marks distance u mark) ∙ there))
       go there (inr some) m mark = absurd (far (sym (is.each u ∙ numbered_kept old marks distance u some) ∙ there))
 
--- where their pairs lead is marked too
+-- what their pairs lead to is marked too
 pub marked_round : {h : History} {a n : ℕ} {marks old new seen fresh next : List ℕ} → IsRound marks old new seen fresh (n + 1)
     → ((b : ℕ) → is_marked marks b ≡ true → b < count h)
     → IsSearched h a n old → IsMarked h a (n + 1) marks → IsSearched h a (n + 1) new → n + 1 < NONE

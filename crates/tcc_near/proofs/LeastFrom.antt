@@ -1,4 +1,4 @@
--- The least numbers of steps from some transactions: one transaction more, and one step more.
+-- The least numbers of steps from some transactions: one more transaction, and one more step.
 use Rattle.std.proofs.Common.{◌≡◌, ◌≢◌, ◌<◌, ◌≤◌, ◌+◌, ◌↔◌, ◌⊎◌, inl, inr, ℕ, true, List, [], ◌∷◌, ◌++◌, length, length-set, replicate, set, take, get_or}
 use Rattle.std.proofs.Common.{slice_index, refl, sym, ◌∙◌, ap, subst, arith, Option, Some, None}
 use Rattle.std.specs.Prelude.{min}
@@ -24,7 +24,7 @@ use Rattle.tcc_near.proofs.ShortWalks.{few_steps}
 
 -- ---- a row of distances
 module _ (h : History) (few : count h < NONE) (a : ℕ) (row : List ℕ) (is : HasLengths (causally h) a row) where
-  -- no walk is shorter than what stands there
+  -- no walk is shorter than what the row holds
   pub walk_no_less : (c : ℕ) (walk : List Step) → c < count h → IsWalk h a c walk → (slice_index row c < NONE) × (slice_index row c ≤ length walk)
   walk_no_less c walk to leads = go (read row c)
     where
@@ -50,7 +50,7 @@ module _ (h : History) (few : count h < NONE) (a : ℕ) (row : List ℕ) (is : H
           subst (λ (d : Option ℕ). IsWalkLength (causally h) a c d) r.1 (is.exact c to) in
           inr (is.short c (slice_index row c) to r.1, some.attained.0, some.attained.1.0, some.attained.2)
 
--- least numbers of steps from transactions that are told otherwise
+-- least numbers of steps from the same transactions, described in another way
 pub least_same : (h : History) (IsOne IsOther : ℕ → Type 0) (row : List ℕ) → ((b : ℕ) → IsOne b ↔ IsOther b) → IsLeastFrom h IsOne row
     → IsLeastFrom h IsOther row
 least_same h IsOne IsOther row same is = record {
@@ -64,7 +64,7 @@ least_same h IsOne IsOther row same is = record {
     go c (inl none) = inl none
     go c (inr (low, (b, one, steps, leads, long))) = inr (low, (b, (same b).0 one, steps, leads, long))
 
--- from nobody
+-- from no transaction
 pub least_none : (h : History) (IsOne : ℕ → Type 0) (n : ℕ) → n ≡ count h → ((b : ℕ) → IsOne b → ⊥) → IsLeastFrom h IsOne (replicate n NONE)
 least_none h IsOne n long none = record {
   long = length-replicate n NONE ∙ long;
@@ -145,7 +145,7 @@ next_more h a numbers n inside b = (onward, back)
     back (inl p) = inl (inl p)
     back (inr c) = by (one_of_taken numbers n inside b c)
 
--- one step more, from a transaction whose pairs lead to these: its distances
+-- one more step, from a transaction whose pairs lead to these: its distances
 pub distances_over : (h : History) (few : count h + 1 < NONE) (IsOne : ℕ → Type 0) (a : ℕ) (old new : List ℕ) → IsLeastFrom h IsOne old
     → ((b : ℕ) → (causal_pair h a b ≡ true) ↔ IsOne b) → length new ≡ length old
     → ((c : ℕ) → c < length old → slice_index new c ≡ min (slice_index old c + 1) NONE) → HasLengths (causally h) a new
@@ -206,7 +206,7 @@ known_there h rows u below long known = go (known.each u below)
     go (inl none) = absurd (let empty : length (row_of rows u) ≡ 0 = ap length none in omega arith)
     go (inr has) = has
 
--- one row more
+-- one more row
 pub known_more : (h : History) (rows : List (List ℕ)) (a : ℕ) (row : List ℕ) → a < count h → AreKnown h rows → HasLengths (causally h) a row
     → AreKnown h (set rows a row)
 known_more h rows a row below known has = record {
@@ -263,7 +263,7 @@ others_of h u end readers is pairs b = (λ p. onward ((pairs b).0 p), λ w. (pai
     back (inl p) = inl ((is.pairs b).0 p)
     back (inr c) = inr c
 
--- session pairs from a transaction lead to the next of its session, and where they lead from there
+-- session pairs from a transaction lead to the next of its session, and to what session pairs from that lead to
 pub before_pairs : (h : History) (ends : List ℕ) → AreEnds h ends → (u v : ℕ) → v < count h → v ≡ u + 1 → slice_index ends u ≡ slice_index ends v → (b : ℕ)
     → IsFromOn h v b ↔ IsSessionPair h u b
 before_pairs h ends are u v below next same b = (onward, λ p. back ((here.pairs b).0 p) (cases_eq b v))
@@ -282,7 +282,7 @@ before_pairs h ends are u v below next same b = (onward, λ p. back ((here.pairs
     back w (inl this) = inr this
     back w (inr other) = inl ((there.pairs b).1 (omega (arith, w.0), omega (arith, w.1, same)))
 
--- at first the heads are the last ones of sessions
+-- at first the heads are the last transactions of sessions
 pub heads_first : (h : History) (ends heads : List ℕ) (runs : List (List ℕ)) (n : ℕ) → AreEnds h ends → n ≡ count h
     → All (λ b. (b < length ends) × (slice_index ends b ≡ b + 1)) heads → length runs ≡ length heads → All (λ run. run ≡ replicate n NONE) runs
     → AreHeads h heads runs

@@ -65,7 +65,7 @@ module _ (h : History) (a : ℕ) (rs : List ℕ) (xs : List (List ℕ)) (long : 
       let same : get_or rs k d ≡ get_or rs k 0 = get_or_default rs k d 0 l in
       omega (arith, at.1, same, wide)
 
-  -- session pairs and the readers beside them make the causal pairs
+  -- session pairs and the other readers make the causal pairs
   pub pairs_apart : (later marks others : List ℕ) (end : ℕ) → IsSessionEnd h a end → ((b : ℕ) → (is_marked later b ≡ true) ↔ ((a + 1 ≤ b) × (b < end)))
       → ((b : ℕ) → (is_marked marks b ≡ true) ↔ Contains rs b) → IsFresh later marks others → IsPairsFrom h a end others
   pairs_apart later marks others end is session readers fresh b = (λ p. by (pair_kinds h a b p), back)
@@ -109,7 +109,7 @@ module _ (h : History) (a end : ℕ) (rs : List ℕ) (pairs : IsPairsFrom h a en
       back (inl m) = (now b).1 (inl ((later b).1 (inl m)))
       back (inr p) = by ((pairs b).0 p)
 
--- from no marks, those of the pairs
+-- with no marks before, those of the pairs
 pub pairs_alone : (h : History) (a : ℕ) (old new : List ℕ) → ((b : ℕ) → is_marked old b ≡ false)
     → ((b : ℕ) → (is_marked new b ≡ true) ↔ ((is_marked old b ≡ true) ⊎ (causal_pair h a b ≡ true)))
     → (b : ℕ) → (is_marked new b ≡ true) ↔ (causal_pair h a b ≡ true)

@@ -1,4 +1,4 @@
--- Rows worked out one by one.
+-- Rows computed one by one.
 use Rattle.std.proofs.Common.{◌≡◌, ◌<◌, ◌+◌, ◌-◌, ◌⊎◌, inl, inr, ℕ, zero, suc, List, [], ◌∷◌, ◌++◌, length, length-append, map, get_or, sym, ◌∙◌, ap, arith, subst, zero-add}
 use Rattle.std.specs.Prelude.{Ok, IfOk}
 use Rattle.std.specs.declared.result.Result.{Result}
@@ -26,7 +26,7 @@ module _ {V : Type 0} (E : Type 0) (P : ℕ → V → Type 0) where
   zipped (x ∷ xs) (y ∷ ys) zero d h l = h.0
   zipped (x ∷ xs) (y ∷ ys) (suc i) d h l = zipped xs ys i d h.1 (omega arith)
 
-  -- what a call gave for each number below n, where each call gave a value
+  -- what a call returned for each number below n, if each call returned a value
   pub each_given : (n : ℕ) (xs : List ℕ) (results : List (Result V E)) (items : List V) → xs ≡ range_with_len 0 n → AllZip (λ x r. IfOk r (P x)) xs results
       → ((ys : List V) × (results ≡ map Ok ys) × (items ≡ ys)) → (length items ≡ n) × ((i : ℕ) (d : V) → i < n → P i (get_or items i d))
   each_given n xs results items numbers given (ys, all, same) = (long, at)

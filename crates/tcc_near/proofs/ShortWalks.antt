@@ -1,4 +1,4 @@
--- A shortest walk has no more steps than there are transactions.
+-- A shortest walk has at most as many steps as there are transactions.
 use Rattle.std.proofs.Common.{ℕ, ◌≡◌, ◌≢◌, ◌<◌, ◌≤◌, ◌⊎◌, inl, inr, true, false, List, [], ◌∷◌, map, length, sym, subst, arith, eqb}
 use Rattle.std.specs.List.{IsDistinct, list_any, AllByRecursion}
 use Rattle.std.proofs.lemmas.Bool.{cases_eq, ne_eqb}
@@ -10,7 +10,7 @@ use Rattle.tcc_graph.specs.Walks.{step_from, step_to, Leads, IsWalk}
 use Rattle.tcc_graph.specs.declared.step.Step.{Step}
 use Rattle.tcc_graph.proofs.Pairs.{step_below}
 
--- where no walk from a to b has fewer steps than n, no step of a shorter one begins at a
+-- if no walk from a to b has fewer than n steps, no step of a shorter one to b begins at a
 apart : (h : History) (a b n : ℕ) → ((others : List Step) → IsWalk h a b others → n ≤ length others) → (m : ℕ) (steps : List Step) → Leads h m b steps
     → length steps < n → AllByRecursion (λ y. eqb a y ≡ false) (map step_from steps)
 apart h a b n least m [] leads few = tt

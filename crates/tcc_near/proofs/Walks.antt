@@ -1,4 +1,4 @@
--- Walks of at most so many steps, by their last step.
+-- Walks of at most n steps, by their last step.
 use Rattle.std.proofs.Common.{◌≡◌, ◌<◌, ◌≤◌, ◌+◌, ℕ, zero, suc, true, ◌⊎◌, inl, inr, List, [], ◌∷◌, ◌++◌, length, refl, arith, length-append}
 use Rattle.std.proofs.lemmas.Bool.{cases_lt}
 use Rattle.tcc_reads.specs.History.{History, count}
@@ -63,7 +63,7 @@ last_step h a n b some (s ∷ steps, w, l) = go (split_last h a b s steps w.1) (
         let long : length split.1 ≡ n = omega (arith, split.4) in
         inr (split.0, split.1, (omega arith, split.2), long, split.3)
 
--- where nothing is n + 1 steps away, nothing is further away
+-- if nothing is n + 1 steps away, nothing is further away
 pub within_closed : (h : History) (a n : ℕ) → ((b : ℕ) → IsWithin h a (n + 1) b → IsWithin h a n b) → (m b : ℕ) → IsWithin h a m b → IsWithin h a n b
 within_closed h a n closed zero b ([], w, l) = absurd (omega (arith, w.0))
 within_closed h a n closed zero b (s ∷ steps, w, l) = absurd (omega arith)
@@ -75,7 +75,7 @@ within_closed h a n closed (suc (suc m)) b w =
     go before (inl few) = before b few
     go before (inr last) = closed b (within_pair h a n last.0 b (before last.0 (last.1, last.2, omega (arith, last.3))) last.4)
 
--- where walks lead are transactions
+-- walks lead to transactions
 pub within_below : (h : History) (a n b : ℕ) → IsWithin h a n b → b < count h
 within_below h a n b ([], w, l) = absurd (omega (arith, w.0))
 within_below h a n b (s ∷ steps, w, l) =

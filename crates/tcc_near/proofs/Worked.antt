@@ -13,11 +13,11 @@ use Rattle.tcc_near.specs.WalkLengths.{IsShortest, IsWalkLength}
 use Rattle.tcc_graph.proofs.Pairs.{first_pair, pair_kinds, pair_below}
 use Rattle.tcc_graph.proofs.Worked.{x, y, entry, stale_read}
 
--- no walk of one step leads where no pair does
+-- no walk of one step leads from a to b if no pair does
 no_step : (h : History) (a b : ℕ) (s : Step) → causal_pair h a b ≡ false → IsWalk h a b (s ∷ []) → ⊥
 no_step h a b s none w = false≢true (sym none ∙ subst (λ (u : ℕ). causal_pair h a u ≡ true) w.1.2 (first_pair h a b s [] w.1))
 
--- a walk that no other is shorter than
+-- a walk that is a shortest one
 shortest : (h : History) (a b : ℕ) (walk : List Step) → IsWalk h a b walk → ((other : List Step) → IsWalk h a b other → length walk ≤ length other)
     → IsShortest (causally h) a b (length walk)
 shortest h a b walk is least = record { attained = (walk, (is, tt), refl); least = λ other allowed. least other allowed.0 }
@@ -67,13 +67,13 @@ chain-onwards =
         absurd (nothing_between (step_to s) (first_pair chain 1 4 s (t ∷ []) w.1) (subst (λ (u : ℕ). causal_pair chain (step_to s) u ≡ true) w.1.2.2 last))
     none_shorter (s ∷ t ∷ u ∷ steps) w = omega arith
 
--- where a single pair is allowed, three steps lead nowhere
+-- if only a single pair is allowed, three steps lead nowhere
 chain-alone : IsWalkLength (atomically chain) 1 4 None
 chain-alone [] is = absurd (omega (arith, is.1))
 chain-alone (s ∷ []) is = no_step chain 1 4 s refl is.0
 chain-alone (s ∷ t ∷ steps) is = absurd (omega (arith, is.1))
 
--- where a single pair is allowed, each step leads as far as it does among others
+-- if only a single pair is allowed, each step still leads as far as it does
 chain-pair : IsShortest (atomically chain) 1 2 1
 chain-pair = record {
   attained = (step.Reads 1 2 x ∷ [], ((omega arith, (refl, (lit< tt, lit< tt, (0, omega arith, refl)), refl)), refl), refl);

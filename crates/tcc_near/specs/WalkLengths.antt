@@ -12,12 +12,12 @@ pub record IsShortest (j : Judged) (a : ℕ) (b : ℕ) (n : ℕ) : Type 0 where
   pub attained : (walk : List Step) × IsAllowedWalk j a b walk × (length walk ≡ n)
   pub least : (walk : List Step) → IsAllowedWalk j a b walk → n ≤ length walk
 
--- the least number of steps of an allowed walk from a to b; none where there is no such walk
+-- the least number of steps of an allowed walk from a to b; none if there is no such walk
 abbrev pub IsWalkLength : Judged → ℕ → ℕ → Option ℕ → Type 0
 IsWalkLength j a b None = (walk : List Step) → IsAllowedWalk j a b walk → ⊥
 IsWalkLength j a b (Some n) = IsShortest j a b n
 
--- what stands in a row, as a number or none
+-- what a row holds, as a number or none
 abbrev pub least_in : List ℕ → ℕ → Option ℕ
 least_in row b = if slice_index row b == NONE then None else Some (slice_index row b)
 
@@ -40,5 +40,5 @@ pub record IsNearOf (j : Judged) (near : NearTable) : Type 0 where
   pub level : near.level ≡ j.level
   pub square : IsSquare (count j.history) near.rows
   pub exact : (a : ℕ) (b : ℕ) → a < count j.history → b < count j.history → IsWalkLength j a b (least near.rows a b)
-  -- no shortest walk visits a transaction twice, but for its start at its end
+  -- no shortest walk visits a transaction twice, except its start at its end
   pub short : (a : ℕ) (b : ℕ) (n : ℕ) → a < count j.history → b < count j.history → least near.rows a b ≡ Some n → n ≤ count j.history

@@ -1,5 +1,6 @@
-//! The adjacency of a history's causal pairs, and a row of marks (a bit set) that takes them in. Session pairs lead to whole ends
-//! of sessions, so of each session the number is kept from which on all are marked: what a session pair leads to is marked once.
+//! The adjacency of a history's causal pairs, and a row of marks (a bit set) to which they are added. Session pairs lead to
+//! whole suffixes of sessions. So for each session the number is kept from which on all are marked: what a session pair leads
+//! to is marked once.
 ghost use Rattle.std.specs.Prelude.{◌≡◌, ◌<◌, ◌≤◌, ◌+◌, ◌*◌, ◌/◌, ◌↔◌, ◌⊎◌, ℕ, true, length, IfOk, slice_index};
 ghost use Rattle.tcc_reads.specs.History.{count};
 ghost use Rattle.tcc_graph.specs.Relations.{causal_pair};
@@ -12,8 +13,8 @@ use std::marker::Model;
 use tcc_bits::{Row, mark, mark_each, take_fresh, words_for};
 use tcc_graph::Graph;
 
-/// The causal pairs from each transaction of a graph: where the numbers end that session pairs lead to, and the readers
-/// among the others.
+/// The causal pairs from each transaction of a graph: the end of the numbers that session pairs lead to, and the readers among
+/// the others.
 #[derive(Drop)]
 pub(crate) struct Pairs<'a> {
     graph: &'a Graph,
@@ -30,7 +31,7 @@ impl<'a> Model for Pairs<'a> {
 }
 
 impl<'a> Pairs<'a> {
-    /// Those of a graph.
+    /// The pairs of a graph.
     pub(crate) fn of(alloc: Global, graph: &'a Graph) -> Result<Pairs<'a>, AllocError>
         ensures pairs { IfOk result ArePairs }
         ensures graph { IfOk result (λ pairs. pairs.history ≡ graph.now) }
@@ -52,7 +53,7 @@ impl<'a> Pairs<'a> {
         self.ends.len()
     }
 
-    /// Where the numbers end that session pairs lead to, for each transaction.
+    /// The end of the numbers that session pairs lead to, for each transaction.
     pub(crate) fn ends(&self) -> &[u32]
         ensures { result.now ≡ self.now.ends }
     {
@@ -69,7 +70,7 @@ impl<'a> Pairs<'a> {
     }
 }
 
-/// Where the numbers end that session pairs lead to, for each transaction.
+/// The end of the numbers that session pairs lead to, for each transaction.
 fn session_ends(alloc: Global, graph: &Graph) -> Result<Vec<u32>, AllocError>
     ensures ends { IfOk result (λ ends. AreEnds graph.now ends.items) }
     ensures few { count graph.now ≤ MAX_COUNT }
@@ -94,7 +95,7 @@ fn mark_between(words: &mut [u64], first: u32, end: u32)
     }
 }
 
-/// The readers of this transaction that no session pair leads to, each once: session pairs lead to those before `end`.
+/// The readers of this transaction that no session pair leads to, each once. Session pairs lead to those before `end`.
 fn other_readers(alloc: Global, graph: &Graph, from: u32, end: u32) -> Result<Row<u32>, AllocError>
     requires below { from < count graph.now }
     requires end { IsSessionEnd graph.now from end }
@@ -124,8 +125,8 @@ fn readers_apart(alloc: Global, graph: &Graph, ends: &[u32]) -> Result<Vec<Row<u
     Ok(readers)
 }
 
-/// Marks the transactions of a session from `first` to before `end`, where the session ends: those before its suffix, as
-/// the suffix is marked.
+/// Marks the transactions of a session from `first` to before `end`, where the session ends. It marks those before the suffix,
+/// since the suffix is marked.
 fn mark_later(words: &mut [u64], suffixes: &mut [u32], first: u32, end: u32)
     requires order { first ≤ end }
     requires some { 0 < end }

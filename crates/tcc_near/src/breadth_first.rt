@@ -1,7 +1,7 @@
-//! All walk lengths of a graph, from each transaction: breadth-first search over rows of marks, 64 transactions in a word, or by
-//! the lengths of those that its pairs lead to (`topological`). A breadth-first search from one transaction takes N / 64 steps a
-//! round and one for each reads-from pair, since of each session only the suffix that isn't marked yet is gone through; it ends
-//! once all have their lengths that may be reached.
+//! All walk lengths of a graph, from each transaction. They are found by breadth-first search over rows of marks, 64
+//! transactions in a word, or from the lengths of those that pairs lead to (`topological`). A breadth-first search from one
+//! transaction takes N / 64 steps a round and one step for each reads-from pair, since it goes only through the suffix of each
+//! session that isn't marked yet. It ends once all that can be reached have their lengths.
 ghost use Rattle.std.specs.Prelude.{◌≡◌, ◌<◌, ◌≤◌, ◌≢◌, ◌↔◌, ℕ, true, length, All, Contains, IfOk, OnOk, slice_index};
 ghost use Rattle.tcc_reads.specs.History.{count};
 ghost use Rattle.tcc_graph.specs.Levels.{causally, atomically, judged};
@@ -33,7 +33,7 @@ fn number(steps: &mut [u16], fresh: &[u32], distance: u16)
     }
 }
 
-/// Gives the length of this round to what is marked and has none. Those are the fresh ones, and are seen from now on.
+/// Gives the length of this round to what is marked and has none. These are the fresh ones, which count as seen from now on.
 fn number_fresh(
     steps: &mut [u16],
     seen: &mut [u64],
@@ -68,7 +68,7 @@ fn spread(pairs: &Pairs<'_>, words: &mut [u64], suffixes: &mut [u32], fresh: &[u
     }
 }
 
-/// From this index on the first transaction that has a value in `bound` and no length; the number of all where there is none.
+/// The first transaction from this index on that has a value in `bound` and no length; the count of all if there is none.
 fn next_open(bound: &[u16], steps: &[u16], from: usize) -> usize
     requires same { length bound.now ≡ length steps.now }
     requires within { from ≤ length bound.now }
@@ -83,9 +83,9 @@ fn next_open(bound: &[u16], steps: &[u16], from: usize) -> usize
     bound.len()
 }
 
-/// The lengths from one transaction by causal walks, which lead to no others than those that have a value in `bound`. A round
-/// numbers what is marked for the first time, and marks what the next step reaches from there; the search ends where there is
-/// nothing to number, or nothing that may still be reached.
+/// The lengths from one transaction by causal walks, which lead only to transactions that have a value in `bound`. A round
+/// numbers what is marked for the first time, and marks what the next step reaches from there. The search ends if there is
+/// nothing to number, or nothing left that can be reached.
 pub(crate) fn lengths_from(
     alloc: Global,
     pairs: &Pairs<'_>,
@@ -116,7 +116,7 @@ pub(crate) fn lengths_from(
     Ok(Row::new(steps))
 }
 
-/// The lengths from one transaction to so many by walks of one step: 1 to what is marked.
+/// The lengths from one transaction to the first `count` by walks of one step: 1 for what is marked.
 fn steps_to(alloc: Global, marks: &[u64], count: usize) -> Result<Row<u16>, AllocError>
     ensures { IfOk result (λ row. (length row ≡ count) × ((b : ℕ) → b < count → slice_index row b ≡ one_step (is_marked marks.now b))) }
 {
@@ -176,9 +176,8 @@ fn all_lengths(
     }
 }
 
-/// The lengths of a graph at a level.
-/// From each transaction to each, itself among them, that is the least number of steps of a walk that the level allows;
-/// none where there is no such walk.
+/// The lengths of a graph at a level. From each transaction to each, itself among them, this is the least number of steps of a
+/// walk that the level allows; none if there is no such walk.
 pub fn near(
     rt: &(impl Threads + Sync),
     alloc: Global,

@@ -1,11 +1,11 @@
-//! Vector clocks: how much of each session stands behind each transaction.
+//! Vector clocks: how much of each session reaches each transaction.
 ghost use Rattle.std.specs.Prelude.{◌≡◌, ◌<◌, length, slice_index};
 ghost use Rattle.tcc_graph.specs.Tables.{row_of};
 
 use std::marker::Model;
 use tcc_bits::Row;
 
-/// Of each transaction of a graph and each session, the last place from which the transaction is reached.
+/// For each transaction of a graph and each session, the last place from which the transaction is reached.
 #[derive(Drop)]
 pub struct Clocks {
     rows: Vec<Row<u32>>,
@@ -36,7 +36,7 @@ impl Clocks {
         self.row(t)[session as usize]
     }
 
-    /// The last place of each session behind `t`.
+    /// The last place of each session that reaches `t`.
     pub fn row(&self, t: u32) -> &[u32]
         requires { t < length self.now }
         ensures { result.now ≡ row_of self.now t }

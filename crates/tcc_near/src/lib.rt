@@ -1,5 +1,5 @@
-//! Walk lengths: the least number of steps from each transaction to each by the walks that a level allows; and by them vector
-//! clocks, which say how much of each session stands behind each transaction.
+//! Walk lengths: the least number of steps from each transaction to each by the walks that a level allows. From them follow
+//! vector clocks, which say how much of each session reaches each transaction.
 #![tactic(auto)]
 
 mod adjacency;

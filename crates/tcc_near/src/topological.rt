@@ -1,10 +1,11 @@
-//! All walk lengths along a topological order of the pairs, backwards: the row of a transaction is the least, by column, of the
-//! rows of those that its pairs lead to, one more each. N rows of N lengths, one pass over a row for each pair that is needed, so
-//! N (N + R) steps for N transactions and R reads. Where pairs have a cycle, breadth-first search from one head breaks it.
+//! All walk lengths along a topological order of the pairs, backwards. The row of a transaction is the least, by column, of
+//! the rows of those that its pairs lead to, plus one. It has N rows of N lengths, and makes one pass over a row for each pair
+//! that is needed. So it takes N (N + R) steps for N transactions and R reads. If pairs have a cycle, breadth-first search
+//! from one head breaks it.
 //!
-//! It goes from the ends of sessions backwards. Of each session stands a transaction at its head, behind which all have their
-//! lengths; one whose readers have theirs too is next. Where none is, as pairs lead in a circle, the lengths from one head are
-//! searched.
+//! It goes backwards from the ends of sessions. Each session has a transaction as its head, after which all have their
+//! lengths. A head whose readers have theirs too is next. If there is none, since pairs have a cycle, the lengths from one
+//! head are searched.
 ghost use Rattle.std.specs.Prelude.{◌≡◌, ◌<◌, ◌≤◌, ◌+◌, ℕ, true, min, length, slice_index, replicate, All, IfOk, IfSome, IsTrue, OnOk};
 ghost use Rattle.tcc_reads.specs.History.{History, count};
 ghost use Rattle.tcc_graph.specs.{Relations.IsSessionPair, Levels.causally, Tables.row_of};
@@ -30,7 +31,7 @@ fn lower(row: &mut [u16], other: &[u16])
     }
 }
 
-/// Takes in the steps from one more transaction, from which these are the lengths.
+/// Adds the steps from one more transaction, which has these lengths.
 fn take_in_one(row: &mut [u16], lengths: &[u16], from: u32)
     requires same { length row.old ≡ length lengths.now }
     requires inside { from < length row.old }
@@ -40,7 +41,7 @@ fn take_in_one(row: &mut [u16], lengths: &[u16], from: u32)
     row[from as usize] = 0;
 }
 
-/// Takes in the steps from each of these, which have their lengths, beside those from what session pairs lead to.
+/// Adds the steps from each of these, which have their lengths, to those from what session pairs lead to.
 fn take_in_each(row: &mut [u16], rows: &[Row<u16>], numbers: &[u32])
     requires same { length rows.now ≡ length row.old }
     requires there { All (IsThere rows.now (length row.old)) numbers.now }
@@ -52,7 +53,7 @@ fn take_in_each(row: &mut [u16], rows: &[Row<u16>], numbers: &[u32])
     }
 }
 
-/// One step more to each transaction to which steps lead.
+/// One more step to each transaction to which steps lead.
 fn lengthen(row: &mut [u16])
     ensures long { length row.new ≡ length row.old }
     ensures each { (c : ℕ) → c < length row.old → slice_index row.new c ≡ min (slice_index row.old c + 1) NONE }
@@ -62,8 +63,7 @@ fn lengthen(row: &mut [u16])
     }
 }
 
-/// The lengths from a transaction whose readers have theirs, by the least numbers of steps from those behind it in its
-/// session.
+/// The lengths from a transaction whose readers have theirs, by the least numbers of steps from those after it in its session.
 fn row_over(
     alloc: Global,
     run: &[u16],
@@ -81,7 +81,7 @@ fn row_over(
     Ok(Row::new(row))
 }
 
-/// The least numbers of steps from a transaction, whose lengths these are, and from those behind it in its session.
+/// The least numbers of steps from a transaction, which has these lengths, and from those after it in its session.
 fn next_run(alloc: Global, run: &[u16], lengths: &[u16], from: u32) -> Result<Row<u16>, AllocError>
     requires same { length run.now ≡ length lengths.now }
     requires inside { from < length run.now }
@@ -106,8 +106,8 @@ fn are_there(rows: &[Row<u16>], numbers: &[u32], count: usize) -> bool
     true
 }
 
-/// A row in which all have a value to which walks lead from the head of a session: where a later transaction of the session
-/// reaches the head, they lead to no others than from those.
+/// A row that has a value for each transaction to which walks lead from the head of a session. If a later transaction of the
+/// session reaches the head, walks from the head lead only to what walks from later ones lead to. Otherwise all have a value.
 fn bound_from(alloc: Global, run: &[u16], head: u32) -> Result<Row<u16>, AllocError>
     requires { head < length run.now }
     ensures { (h : History) → IsLeastFrom h (IsSessionPair h head) run.now → IfOk result (IsBoundFrom h head) }
@@ -120,7 +120,7 @@ fn bound_from(alloc: Global, run: &[u16], head: u32) -> Result<Row<u16>, AllocEr
     Ok(Row::new(row))
 }
 
-/// The lengths from the head of a session: by those of its readers where they have theirs, else by a search.
+/// The lengths from the head of a session: by those of its readers if they have theirs, else by a search.
 fn row_of_head(
     alloc: Global,
     pairs: &Pairs<'_>,
@@ -143,7 +143,7 @@ fn row_of_head(
     }
 }
 
-/// The session to go on with: one whose head's readers have their lengths, or else any that has a head.
+/// The next session: one whose head's readers have their lengths, or else any that has a head.
 fn next_session(pairs: &Pairs<'_>, heads: &[u32], rows: &[Row<u16>]) -> Option<usize>
     requires pairs { ArePairs pairs.now }
     requires heads { (s : ℕ) → s < length heads.now → slice_index heads.now s < count pairs.now.history }
@@ -162,7 +162,7 @@ fn next_session(pairs: &Pairs<'_>, heads: &[u32], rows: &[Row<u16>]) -> Option<u
     open
 }
 
-/// The transaction right before this one in its session, 0 where there is none.
+/// The transaction right before this one in its session, 0 if there is none.
 fn previous(ends: &[u32], number: u32) -> u32
     requires some { 0 < number }
     requires below { number < length ends.now }
@@ -191,7 +191,7 @@ fn last_of_each(alloc: Global, ends: &[u32]) -> Result<Vec<u32>, AllocError>
     Ok(heads)
 }
 
-/// So many rows of a width, with `NONE` throughout.
+/// This many rows of a width, with `NONE` throughout.
 fn blank_rows(alloc: Global, count: usize, width: usize) -> Result<Vec<Row<u16>>, AllocError>
     ensures long { IfOk result (λ rows. length rows.items ≡ count) }
     ensures each { IfOk result (λ rows. All (λ row. row ≡ replicate width NONE) rows.items) }
@@ -203,7 +203,7 @@ fn blank_rows(alloc: Global, count: usize, width: usize) -> Result<Vec<Row<u16>>
     Ok(rows)
 }
 
-/// Takes the lengths from the head of a session into the rows. The transaction before it is the head from now on.
+/// Puts the lengths from the head of a session into the rows. The transaction before it is the head from now on.
 fn take_in_head(
     alloc: Global,
     pairs: &Pairs<'_>,
@@ -229,7 +229,7 @@ fn take_in_head(
     Ok(())
 }
 
-/// The lengths from all transactions but `init`.
+/// The lengths from transactions other than `init`.
 fn rows_of_sessions(alloc: Global, pairs: &Pairs<'_>) -> Result<Vec<Row<u16>>, AllocError>
     requires { ArePairs pairs.now }
     ensures { IfOk result (λ rows. AreKnown pairs.now.history rows.items) }

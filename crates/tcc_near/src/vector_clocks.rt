@@ -1,5 +1,6 @@
-//! Vector clocks (Fidge, Mattern) of any history, also of one whose pairs have a cycle: from the walk lengths, session by session
-//! in threads. For N transactions of S sessions that takes N * N steps beside the walk lengths, and N * S numbers.
+//! Vector clocks (Fidge, Mattern) of any history, even of one whose pairs have a cycle. They follow from the walk lengths,
+//! session by session in threads. For N transactions of S sessions that takes N * N steps beside the walk lengths, and N * S
+//! numbers.
 ghost use Rattle.std.specs.Prelude.{◌≡◌, ◌<◌, ℕ, length, map, All, IfOk, MatchOption, slice_index};
 ghost use Rattle.tcc_reads.specs.History.{count, owner, place};
 ghost use Rattle.tcc_graph.specs.{Levels.causally, Clocks.IsClocksOf};
@@ -14,7 +15,7 @@ use tcc_bits::Row;
 use tcc_graph::{Graph, Level};
 use tcc_txn::NoMemory;
 
-/// The place of a committed transaction in this session; none where it is of another.
+/// The place of a committed transaction in this session; none if it is of another.
 fn place_in(graph: &Graph, session: u32, b: u32) -> Option<u32>
     requires committed { 0 < b }
     requires below { b < count graph.now }
@@ -25,7 +26,7 @@ fn place_in(graph: &Graph, session: u32, b: u32) -> Option<u32>
     if owner == session { Some(place) } else { None }
 }
 
-/// Raises the last place behind each transaction to this one where a walk leads there.
+/// Raises the last place that reaches each transaction to this one if a walk leads there.
 fn raise(lasts: &mut [u32], place: u32, steps: &[u16])
     requires { length steps.now ≡ length lasts.old }
     ensures long { length lasts.new ≡ length lasts.old }
@@ -39,7 +40,7 @@ fn raise(lasts: &mut [u32], place: u32, steps: &[u16])
     }
 }
 
-/// The last place of a session behind each transaction.
+/// The last place of a session that reaches each transaction.
 fn lasts_of(alloc: Global, graph: &Graph, near: &Near, session: u32) -> Result<Row<u32>, AllocError>
     requires { IsNearOf (causally graph.now) near.now }
     ensures { IfOk result (AreLasts graph.now session) }
@@ -53,7 +54,7 @@ fn lasts_of(alloc: Global, graph: &Graph, near: &Near, session: u32) -> Result<R
     Ok(Row::new(lasts))
 }
 
-/// The last places behind each transaction, a row for each session.
+/// The last places that reach each transaction, a row for each session.
 fn all_lasts(
     rt: &(impl Threads + Sync),
     alloc: Global,
@@ -74,7 +75,7 @@ fn all_lasts(
         .collect::<Result<Vec<Row<u32>>, AllocError>>(rt, alloc)?
 }
 
-/// What stands at one place of each row.
+/// The value at one index of each row.
 fn column(alloc: Global, rows: &[Row<u32>], place: u32) -> Result<Row<u32>, AllocError>
     requires { All (λ row. place < length row) rows.now }
     ensures { IfOk result (λ column. column ≡ map (λ row. slice_index row place) rows.now) }
@@ -86,7 +87,7 @@ fn column(alloc: Global, rows: &[Row<u32>], place: u32) -> Result<Row<u32>, Allo
     Ok(Row::new(column))
 }
 
-/// The last places behind each transaction, a row for each transaction.
+/// The last places that reach each transaction, a row for each transaction.
 fn clock_rows(alloc: Global, graph: &Graph, lasts: &[Row<u32>]) -> Result<Vec<Row<u32>>, AllocError>
     requires { HaveLasts graph.now lasts.now }
     ensures { IfOk result (λ rows. IsClocksOf graph.now rows.items) }

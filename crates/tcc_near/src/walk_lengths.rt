@@ -7,7 +7,7 @@ use std::marker::Model;
 use tcc_bits::Row;
 use tcc_graph::Level;
 
-/// What stands in a table where there is no number: no walk leads there, or no link.
+/// What a table holds in place of a number: no walk leads there, or no link.
 pub const NONE: u16 = u16::MAX;
 
 /// The least number of steps of a walk that a level allows, from each transaction of a graph to each, itself among them.
@@ -44,8 +44,8 @@ impl Near {
         self.level
     }
 
-    /// The least number of steps of a walk from `a` to `b`, of one step at least; none where no walk leads there. It is for
-    /// those who ask for one length: whoever goes through many takes `row`.
+    /// The least number of steps of a walk from `a` to `b`, at least one; none if no walk leads there. It is for a single
+    /// length: whoever goes through many takes `row`.
     pub fn least(&self, a: u32, b: u32) -> Option<u32>
         requires from { a < length self.now.rows }
         requires to { b < length self.now.rows }
@@ -59,7 +59,7 @@ impl Near {
         }
     }
 
-    /// The least number of steps from `a` to each transaction, `NONE` where no walk leads.
+    /// The least number of steps from `a` to each transaction, `NONE` if no walk leads there.
     pub fn row(&self, a: u32) -> &[u16]
         requires { a < length self.now.rows }
         ensures value { result.now ≡ row_of self.now.rows a }
@@ -68,7 +68,7 @@ impl Near {
         self.rows[a as usize].as_slice()
     }
 
-    /// The rows as they came, for those who keep them in another form.
+    /// The rows by value, for callers that keep them in another form.
     pub fn into_rows(self) -> Vec<Row<u16>>
         ensures { result.items ≡ self.rows }
     {

@@ -1,5 +1,5 @@
--- Before a block of sessions begins in an order there is nobody of it: zeros are the clocks of those that stand there, nobody was noted
--- and nothing told.
+-- Before a block of sessions begins in an order there is no transaction of the block. So zeros are the clocks of those before
+-- it, none of them was noted, and no reading tells more.
 use Rattle.std.proofs.Common.{◌≡◌, ◌<◌, ◌≤◌, ◌+◌, ◌∙◌, inl, inr, ℕ, List, length, get_or, take, slice_index, replicate, refl, sym, ap, subst, arith}
 use Rattle.std.specs.List.{Contains}
 use Rattle.std.proofs.lemmas.List.{get_or_default, get_or-take, get_or-replicate, length-take-le, length-replicate}
@@ -16,7 +16,7 @@ use Rattle.tcc_order.proofs.NewsLemmas.{ArePassed, reached_passed}
 
 module _ (h : History) (owners : List ℕ) (are : AreOwners h owners) (from : ℕ) (order : List ℕ) (start : ℕ) (upto : start ≤ length order)
     (none : NoneBefore owners from order start) where
-  -- nobody of the block stands there
+  -- no transaction of the block is there
   nobody : (P : ℕ → Type 0) (n k b : ℕ) → n ≤ start → k < WIDE → IsOneOf h P (from + k) b → Contains (take n order) b → ⊥
   nobody P n k b early l one (i, inside, e) =
       let short : i < n = omega (arith, inside, length-take-le n order (omega (arith, early, upto))) in
@@ -31,7 +31,7 @@ module _ (h : History) (owners : List ℕ) (are : AreOwners h owners) (from : �
   begun_heads floor heads key_index k b within l one = absurd (nobody _ start k b (omega arith) l one one.meant.1)
 
   module _ (numbering : IsNumbering (count h) order) (onward : LeadsOnward h order) where
-    -- nobody of the block reaches who stands there
+    -- no transaction of the block reaches one that is there
     unreached : (P : ℕ → Type 0) (n k b : ℕ) → n < start → k < WIDE → IsOneOf h P (from + k) b → IsReached h b (get_or order n 0) → ⊥
     unreached P n k b early l one reached =
         nobody P n k b (omega (arith, early)) l one (reached_passed h order numbering onward n b (omega (arith, early, upto)) reached)

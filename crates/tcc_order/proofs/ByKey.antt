@@ -1,4 +1,4 @@
--- The readings of each transaction, key by key: what has to stand before it by those of one key.
+-- The readings of each transaction, key by key: what has to be before it by the readings of one key.
 use Rattle.std.proofs.Common.{◌≡◌, ◌≢◌, ◌<◌, ◌≤◌, ◌+◌, ◌-◌, ◌⊎◌, inl, inr, ℕ, true, false, List, [], length, slice_index, refl, sym, ap, subst, ◌∙◌, arith}
 use Rattle.std.specs.Prelude.{max, nat_le}
 use Rattle.std.specs.List.{Contains}
@@ -60,7 +60,7 @@ module _ (table : List (List ℕ)) (readings : List (ℕ × ℕ)) (start : ℕ) 
             omega (arith, at)
         most j above (inr other) below = is.greatest j above (omega (arith, other, below))
 
--- the greatest of each session of a block
+-- the greatest number of each session of a block
 module _ (table : List (List ℕ)) (readings : List (ℕ × ℕ)) (start : ℕ) (known : List ℕ) where
   pub tops_none : (row : List ℕ) → length row ≡ WIDE → ((k : ℕ) → k < length row → slice_index row k ≡ 0)
       → (length row ≡ WIDE) × ((k : ℕ) → k < WIDE → IsTop table readings start start known k (slice_index row k))
@@ -84,7 +84,7 @@ module _ (table : List (List ℕ)) (readings : List (ℕ × ℕ)) (start : ℕ) 
         → (length old ≡ WIDE) × ((k : ℕ) → k < WIDE → IsTop table readings start (n + 1) known k (slice_index old k))
     tops_passed same = (wide, λ k l. top_passed table readings start known k n (slice_index old k) from (is k l) same)
 
--- what is known needn't be told
+-- what is known may be left out
 pub top_past : (table : List (List ℕ)) (readings : List (ℕ × ℕ)) (start end : ℕ) (known : List ℕ) (k top : ℕ) → IsTop table readings start end known k top
     → IsTop table readings start end known k (past_of (slice_index known k) top)
 top_past table readings start end known k top is = go (cases_Bool (nat_le top (slice_index known k)))
@@ -154,7 +154,7 @@ module _ (h : History) (from : ℕ) (table : List (List ℕ)) (a : ℕ) (reading
       go k v (inl none) = inl none
       go k v (inr one) = inr record { committed = one.committed; below = one.below; owned = one.owned; meant = widen v one.meant }
 
--- what is past none of them
+-- with no readings, what is past the known is nothing
 pub read_none : (h : History) (from a : ℕ) (readings : List (ℕ × ℕ)) (row known : List ℕ) → length row ≡ WIDE
     → ((k : ℕ) → k < length row → slice_index row k ≡ 0) → AreLatestPast h (IsOverwritten h (IsReadBefore h readings 0) a) from known row
 read_none h from a readings row known wide zero = record {
@@ -165,7 +165,7 @@ read_none h from a readings row known wide zero = record {
     none : (b : ℕ) → IsOverwritten h (IsReadBefore h readings 0) a b → ⊥
     none b (c, x, (j, l, reader, key), writer, apart, reached) = omega arith
 
--- ---- those of one key more
+-- ---- the readings of one more key
 module _ (h : History) (numbered : IsBySession h.entries) (owners : List ℕ) (known_owners : AreOwners h owners) (from a : ℕ) (readings : List (ℕ × ℕ))
     (table : List (List ℕ)) (clocks : AreClocks h from table) (below : (j : ℕ) → j < length readings → reader_in readings j < count h) where
   reads_clock : (j : ℕ) → j < length readings → AreLatestOf h (IsBefore h (reader_in readings j)) from (row_of table (reader_in readings j))
@@ -173,7 +173,7 @@ module _ (h : History) (numbered : IsBySession h.entries) (owners : List ℕ) (k
 
   module _ (start end : ℕ) (within : end ≤ length readings) (top known : List ℕ) (long : length top ≡ WIDE)
       (tops : (k : ℕ) → k < WIDE → IsTop table readings start end known k (slice_index top k)) where
-    -- what stands there is 0, or reaches one of the readers
+    -- the number there is 0, or reaches one of the readers
     reaching : (k : ℕ) → k < WIDE
         → (slice_index top k ≡ 0)
         ⊎ ((j : ℕ) × (start ≤ j) × (j < end) × IsOneOf h (IsBefore h (reader_in readings j)) (from + k) (slice_index top k))
@@ -211,7 +211,7 @@ module _ (h : History) (numbered : IsBySession h.entries) (owners : List ℕ) (k
       still_one k v (inl none) = inl none
       still_one k v (inr one) = inr record { committed = one.committed; below = one.below; owned = one.owned; meant = still_over v one.meant }
 
-      -- one of those is one of those before, or is by these readings
+      -- b is overwritten by the readings before, or by the readings of this key
       abbrev IsNew : ℕ → Type 0
       IsNew b =
           IsOverwritten h (IsReadBefore h readings start) a b
@@ -228,7 +228,7 @@ module _ (h : History) (numbered : IsBySession h.entries) (owners : List ℕ) (k
 
       module _ (old new : List ℕ) (are : AreLatestPast h (IsOverwritten h (IsReadBefore h readings start) a) from known old) (wide : length new ≡ length old)
           (each : (k : ℕ) → k < length old → IsLifted owners from top (writers h x) a k (slice_index old k) (slice_index new k)) where
-        -- a writer up to what stands there has to stand before a
+        -- a writer up to the number there has to be before a
         over : (k b : ℕ) → k < WIDE → IsLiftable owners from top (writers h x) a k b → IsOneOf h (IsOverwritten h (IsReadBefore h readings end) a) (from + k) b
         over k b l (some, apart, writer, owned, up) = go (reaching k l) (cases_eq b (slice_index top k))
           where
@@ -333,12 +333,12 @@ module _ (h : History) (numbered : IsBySession h.entries) (owners : List ℕ) (k
   climb e (inl same) = subst (λ (z : ℕ). IsReached h z a) (sym same) leads
   climb e (inr reached) = reached_append h e (a - 1) a reached leads
 
-  -- what is covered there is covered here
+  -- what is covered for the one before is covered here
   handed_on : (b : ℕ) → IsCovered h kept (a - 1) b → IsCovered h kept a b
   handed_on b (d, way, inl (e, there, up_to)) = (d, way, inl (e, there, inr (climb e up_to)))
   handed_on b (d, way, inr reached) = (d, way, inr (reached_append h d (a - 1) a reached leads))
 
-  -- a reader of the key there with the same row
+  -- a reader of the key for the one before, with the same row
   other_reader : (c : ℕ) (x : List ℕ) → IsReadBefore h (row_of rows a) (length (row_of rows a)) c x
       → (e : ℕ) × IsReadsPair h (a - 1) e x × (row_of table c ≡ row_of table e)
   other_reader c x (j, l, reader, key) =
@@ -377,7 +377,7 @@ module _ (h : History) (numbered : IsBySession h.entries) (owners : List ℕ) (k
           go (inl same) = (b, inl refl, inr (subst (λ (z : ℕ). IsReached h z a) (sym same) leads))
           go (inr other) = told other (back h from table a (row_of rows a) (all.each a) c x pair)
 
-  -- nothing more is kept of it
+  -- no more links have to be kept into it
   pub alike_enough : AreEnough h (Overwrites h) (IsUpTo h from (a + 1)) kept
   alike_enough d b over some (meant, small) = go (cases_eq d a)
     where

@@ -1,4 +1,4 @@
--- Where each number that is left has one before it that is left too, going back meets one twice: there is a circle.
+-- If each number that is left has one before it that is left too, going back meets some number twice: there is a cycle.
 use Rattle.std.proofs.Common.{◌≡◌, ◌<◌, ◌≤◌, ℕ, zero, suc, ◌+◌, Bool, true, false, ◌&&◌, ◌⊎◌, inl, inr, List, [], ◌∷◌, length, not, eqb, arith}
 use Rattle.std.specs.List.{IsDistinct, AllByRecursion}
 use Rattle.std.proofs.lemmas.Bool.{or_cases, and_parts, cases_Bool, cases_eq, false≢true, eqb-true, not-true, not-false, or_parts}
@@ -58,7 +58,7 @@ distinct_one x = (tt, tt)
 abbrev pub HasBefore : (ℕ → ℕ → Bool) → (ℕ → Type 0) → Type 0
 HasBefore precedes Left = (x : ℕ) → Left x → (a : ℕ) × Left a × (precedes a x ≡ true)
 
--- what was met going back
+-- what was visited going back
 record IsTrail (precedes : ℕ → ℕ → Bool) (n : ℕ) (Left : ℕ → Type 0) (x : ℕ) (xs : List ℕ) : Type 0 where
   left : Left x
   below : (q : ℕ) → has (x ∷ xs) q ≡ true → q < n
@@ -87,7 +87,7 @@ module _ (precedes : ℕ → ℕ → Bool) (n : ℕ) (Left : ℕ → Type 0) (in
       step : (a : ℕ) × Left a × (precedes a x ≡ true) → ((a : ℕ) → IsTrail precedes n Left a (x ∷ xs) → HasCircle precedes) → HasCircle precedes
       step (a, left, p) rest = go a left p (rest a) (cases_Bool (has (x ∷ xs) a))
 
-  -- where some number is left there is a circle
+  -- if some number is left there is a cycle
   pub left_circle : (x : ℕ) → Left x → HasCircle precedes
   left_circle x left =
       back n x [] (omega arith) (record {
@@ -109,7 +109,7 @@ lacks precedes done x a = precedes a x && not (has done a)
 abbrev pub IsNotDone : ℕ → List ℕ → ℕ → Type 0
 IsNotDone n done x = (x < n) × (has done x ≡ false)
 
--- where none can be picked, each that is left has one before it that is left
+-- if none can be picked, each that is left has one before it that is left
 pub prior_of : (precedes : ℕ → ℕ → Bool) (n : ℕ) (done : List ℕ) → IsBelow precedes n → ((x : ℕ) → IsFree precedes n done x → ⊥)
     → HasBefore precedes (IsNotDone n done)
 prior_of precedes n done bounds stuck x (l, left) = go (search_below (lacks precedes done x) n)
@@ -122,7 +122,7 @@ prior_of precedes n done bounds stuck x (l, left) = go (search_below (lacks prec
         let w = and_parts (precedes found.0 x) (not (has done found.0)) found.1.passes in (found.0, (found.1.below, not-true (has done found.0) w.1), w.0)
     go (inr none) = absurd (stuck x (record { below = l; new = left; ready = seen none }))
 
--- where less than all were picked, some number is left
+-- if not all were picked, some number is left
 pub some_left : (n : ℕ) (done : List ℕ) → length done < n → (x : ℕ) × (x < n) × (has done x ≡ false)
 some_left n done short = go (search_below (λ x. not (has done x)) n)
   where

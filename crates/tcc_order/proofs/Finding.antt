@@ -1,4 +1,5 @@
--- An order by what holds each transaction back is a commit order, the first is the first, and a circle is a cycle.
+-- An order by what holds each transaction back is a commit order, the first such order is the first one, and a cycle of it is
+-- a cycle of links.
 use Rattle.std.proofs.Common.{◌≡◌, ◌≢◌, ◌<◌, ◌≤◌, ◌+◌, ◌*◌, ◌/◌, ◌∙◌, ℕ, zero, suc, Bool, true, false, ◌⊎◌, inl, inr, List, [], ◌∷◌, length, get_or, sym, subst, arith}
 use Rattle.std.specs.Int.{div_ceil}
 use Rattle.tcc_clocks.specs.declared.latest.TheConstants.{WIDE}
@@ -122,7 +123,7 @@ module _ (h : History) (numbered : IsBySession h.entries) (kept : List (List ℕ
       by (inl same) = rw same (last rest)
       by (inr before) = before_join (count h) order b d a is.numbering (pairs_first b d (inl before)) (last rest)
 
--- ---- with links kept that are enough, it is a commit order
+-- ---- if the kept links are enough, it is a commit order
 module _ (j : Judged) (numbered : IsBySession j.history.entries) (kept : List (List ℕ)) (links : AreLinks j kept) where
   commit_of : (order : List ℕ) → IsOrderOf (holds j.history kept) (count j.history) order → IsCommitOrder j order
   commit_of order is = record {
@@ -149,7 +150,7 @@ module _ (j : Judged) (numbered : IsBySession j.history.entries) (kept : List (L
   pub first_kept : (order : List ℕ) → IsFirstOf (holds j.history kept) (count j.history) order → IsFirstOrder j order
   first_kept order first = record { commit = commit_of order first.is_order; first = λ other p. first.first other (order_of other p) }
 
--- ---- where nothing is kept
+-- ---- if no links are kept
 pub none_derived : (Means : ℕ → ℕ → Type 0) (kept : List (List ℕ)) → HasNone kept → AreDerived Means kept
 none_derived Means kept none a b there = absurd (nothing_kept kept none a b there)
 
@@ -168,7 +169,7 @@ causal_links h kept long derived enough = record {
     from : (a b : ℕ) → Derives (causally h) a b → Overwrites h a b
     from a b (small, below, (c, x, pair, writer, apart, way)) = (small, below, (c, x, pair, writer, apart, (way.0, way.1.0)))
 
--- a block none of whose writers may have to stand before another transaction
+-- a block none of whose writers may have to be before another transaction
 pub block_passed : (h : History) (kept : List (List ℕ)) (needed : List Bool) → AreNeeded h needed → (first number : ℕ) → get_or needed number false ≡ false
     → AreEnough h (Overwrites h) (IsFrom h (first * WIDE) (number * WIDE)) kept → AreEnough h (Overwrites h) (IsFrom h (first * WIDE) ((number + 1) * WIDE)) kept
 block_passed h kept needed are first number unmarked before a b over some (more, less) = go over (cases_lt (owner h b) (number * WIDE))
@@ -181,7 +182,7 @@ block_passed h kept needed are first number unmarked before a b over some (more,
         = subst (λ (z : ℕ). get_or needed z false ≡ true) block (are a b c x pair writer some apart) in
         absurd (false≢true (sym unmarked ∙ marked))
 
--- a block more
+-- one more block
 pub block_kept : (h : History) (old new : List (List ℕ)) (first number : ℕ) → AreStillKept old new
     → AreEnough h (Overwrites h) (IsFrom h (first * WIDE) (number * WIDE)) old
     → AreEnough h (Overwrites h) (IsFrom h (number * WIDE) (number * WIDE + WIDE)) new
@@ -192,6 +193,6 @@ block_kept h old new first number still before block a b over some (more, less) 
     go (inl early) = covered_wider h old new a b still (before a b over some (more, early))
     go (inr late) = block a b over some (late, omega (arith, less))
 
--- so many blocks have room for all sessions
+-- this many blocks have room for all sessions
 pub blocks_cover : (sessions blocks : ℕ) → div_ceil sessions 64 ≤ blocks → sessions ≤ blocks * WIDE
 blocks_cover sessions blocks enough = omega (arith, enough)

@@ -1,4 +1,5 @@
--- Orders picked by what holds each transaction back; and the heads of the sessions, of which the first that is free is the least.
+-- Orders picked by what holds each transaction back; and the heads of the sessions: the first free head is the least free
+-- transaction.
 use Rattle.std.proofs.Common.{◌≡◌, ◌≢◌, ◌<◌, ◌+◌, ◌==◌, ◌&&◌, ◌||◌, ◌⊎◌, inl, inr, ℕ, Bool, true, List, [], ◌∷◌, ◌++◌, map, length, get_or, slice_index, nat_lt}
 use Rattle.std.proofs.Common.{eqb, sym, ap, ◌∙◌, subst, arith}
 use Rattle.std.specs.List.{list_any, All, Contains}
@@ -36,7 +37,7 @@ holds_parts h kept b x p =
 pub holds_below : (h : History) (kept : List (List ℕ)) → IsBelow (holds h kept) (count h)
 holds_below h kept b x p = let w = holds_parts h kept b x p in (w.0, w.1)
 
--- what is behind the parent of x
+-- what comes after the parent of x: its sources and links
 module _ (h : History) (kept : List (List ℕ)) (placed : List ℕ) (x : ℕ) (low : x < count h) (reads : List (ℕ × ℕ))
     (read : map (λ read. (key_at h read.0, read.1)) reads ≡ (entry_at h x).reads) where
   read_source : (k : ℕ) → k < length reads → Contains (sources h x) (get_or reads k (0, 0)).1
@@ -51,7 +52,7 @@ module _ (h : History) (kept : List (List ℕ)) (placed : List ℕ) (x : ℕ) (l
       let v = from_map (λ (r : ℕ × ℕ). (key_at h r.0, r.1)) reads w.0 (rw read w.1) in
       (v.1.0, v.1.1, ap (λ (r : ℕ × ℕ). r.1) (get_or_default reads v.1.0 (0, 0) v.0 v.1.1 ∙ v.1.2) ∙ (ap (λ (r : List ℕ × ℕ). r.1) v.2 ∙ w.2))
 
-  -- nothing behind the parent is missing where all reads and links are placed
+  -- none of these is missing if all reads and links are placed
   pub none_behind : ((k : ℕ) → k < length reads → is_marked placed (get_or reads k (0, 0)).1 ≡ true)
       → ((k : ℕ) → k < length (row_of kept x) → is_marked placed (slice_index (row_of kept x) k) ≡ true) → (b : ℕ)
       → Contains (sources h x ++ row_of kept x) b → is_marked placed b ≡ true
@@ -77,7 +78,7 @@ module _ (h : History) (ps : List ℕ) (are : ArePrevious h ps) (kept : List (Li
       (Contains-append_left (parents h x) (row_of kept x) (previous h x)
       (Contains-append_left (previous_one h x) (sources h x) (previous h x) (one_parent h x some))))
 
-  -- where the parent was placed, and what is behind it
+  -- the parent was placed, and so were the sources and links
   pub none_held : (placed : List ℕ) → (0 < x → is_marked placed (slice_index ps x) ≡ true)
       → ((b : ℕ) → Contains (sources h x ++ row_of kept x) b → is_marked placed b ≡ true) → (b : ℕ) → holds h kept b x ≡ true → is_marked placed b ≡ true
   none_held placed parent rest b p = go (Contains-append_cases (parents h x) (row_of kept x) b (holds_parts h kept b x p).2)

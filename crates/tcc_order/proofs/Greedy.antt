@@ -1,5 +1,5 @@
--- Orders that are picked from the front, always the least number all of whose predecessors were picked: each is a
--- numbering with all pairs in order, and none comes before it.
+-- Orders that are picked from the front, always the least number all of whose predecessors were picked. Each is a numbering
+-- with all pairs in order, and no such numbering comes before it.
 use Rattle.std.proofs.Common.{◌≡◌, ◌<◌, ◌≢◌, ℕ, zero, suc, Bool, true, false, ◌⊎◌, inl, inr, List, [], ◌∷◌, ◌++◌, length, take, get_or, slice_index, eqb, refl}
 use Rattle.std.proofs.Common.{sym, ◌∙◌, append_assoc, append-nil, length-append, arith, subst}
 use Rattle.std.specs.List.{list_any, IsDistinct, Contains}
@@ -20,18 +20,18 @@ use Rattle.tcc_graph.proofs.Numberings.{below_in, has_index, one_index}
 abbrev pub has : List ℕ → ℕ → Bool
 has xs x = list_any (eqb x) xs
 
--- x may be picked after those done
+-- x can be picked after those done
 pub record IsFree (precedes : ℕ → ℕ → Bool) (n : ℕ) (done : List ℕ) (x : ℕ) : Type 0 where
   pub below : x < n
   pub new : has done x ≡ false
   pub ready : (a : ℕ) → precedes a x ≡ true → has done a ≡ true
 
--- the least that may be picked
+-- the least that can be picked
 pub record IsNext (precedes : ℕ → ℕ → Bool) (n : ℕ) (done : List ℕ) (x : ℕ) : Type 0 where
   pub free : IsFree precedes n done x
   pub least : (y : ℕ) → y < x → IsFree precedes n done y → ⊥
 
--- after those done each of the list was picked in turn
+-- after those done each number of the list was picked in turn
 abbrev pub Picks : (ℕ → ℕ → Bool) → ℕ → List ℕ → List ℕ → Type 0
 Picks precedes n done [] = Unit {0}
 Picks precedes n done (x ∷ xs) = IsNext precedes n done x × Picks precedes n (done ++ x ∷ []) xs
@@ -52,7 +52,7 @@ Picks-distinct precedes n done [] d p = rw (append-nil done) d
 Picks-distinct precedes n done (x ∷ xs) d p =
     rw (← append_assoc done (x ∷ []) xs) (Picks-distinct precedes n (done ++ x ∷ []) xs (IsDistinct-push nat_eq_equiv done x d p.0.free.new) p.1)
 
--- where an element is
+-- the index of an element
 pub place_of : (xs : List ℕ) (x : ℕ) → has xs x ≡ true → (i : ℕ) × (i < length xs) × (slice_index xs i ≡ x)
 place_of [] x h = absurd (false≢true h)
 place_of (y ∷ xs) x h = go (or_cases (eqb x y) (has xs x) h) (λ t. place_of xs x t)
@@ -65,11 +65,11 @@ place_of (y ∷ xs) x h = go (or_cases (eqb x y) (has xs x) h) (λ t. place_of x
 pub has_at : (xs : List ℕ) (i x : ℕ) → i < length xs → slice_index xs i ≡ x → has xs x ≡ true
 has_at xs i x l e = list_any_at (eqb x) xs i 0 l (eq-eqb x (get_or xs i 0) (sym e))
 
--- an earlier place of a list holds what the part before has
+-- an earlier index of a list has an element of the part before
 before_here : (done rest : List ℕ) (i x : ℕ) → i < length done → slice_index (done ++ rest) i ≡ x → has done x ≡ true
 before_here done rest i x l e = has_at done i x l (sym (get_or_append_left done rest 0 i l) ∙ e)
 
--- what stands next in an order might be picked next
+-- the next number of an order could be picked next
 next_free : (precedes : ℕ → ℕ → Bool) (n : ℕ) (done : List ℕ) (y : ℕ) (ys : List ℕ) → IsOrderOf precedes n (done ++ y ∷ ys) → IsFree precedes n done y
 next_free precedes n done y ys h =
     let all = done ++ y ∷ ys in
@@ -161,7 +161,7 @@ all_picked precedes n order p full x l = go (cases_Bool (has order x))
           length-le_from_distinct_below (order ++ x ∷ []) (n) (IsDistinct-push nat_eq_equiv order x distinct new) (λ q h. below q (has-push order x q h)),
         ))
 
--- two places of what was picked hold two numbers
+-- two indices of what was picked have two numbers
 apart : (precedes : ℕ → ℕ → Bool) (n : ℕ) (order : List ℕ) (i j : ℕ) → Picks precedes n [] order → i < j → j < length order
     → slice_index order i ≡ slice_index order j → ⊥
 apart precedes n order i j p l within e =

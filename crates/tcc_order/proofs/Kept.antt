@@ -1,4 +1,4 @@
--- A relation that has the pairs of links and no others: its orders are the commit orders, and its circles are cycles.
+-- A relation that has exactly the pairs of links: its orders are the commit orders, and its cycles are cycles of links.
 use Rattle.std.proofs.Common.{◌≡◌, ◌<◌, ℕ, Bool, true, ◌↔◌, List, [], ◌∷◌, refl, arith, subst, sym}
 use Rattle.tcc_reads.specs.History.{count}
 use Rattle.tcc_graph.specs.Levels.{Judged}
@@ -21,7 +21,7 @@ pub record HasEnds (j : Judged) (a b : ℕ) (l : Link) : Type 0 where
 abbrev pub IsLinked : Judged → ℕ → ℕ → Type 0
 IsLinked j a b = (l : Link) × HasEnds j a b l
 
--- the relation has the pairs that some link leads over, and no others
+-- the relation has exactly the pairs of some link
 abbrev pub IsPrecedence : Judged → (ℕ → ℕ → Bool) → Type 0
 IsPrecedence j precedes = (a b : ℕ) → (precedes a b ≡ true) ↔ IsLinked j a b
 

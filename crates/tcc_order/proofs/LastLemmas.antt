@@ -1,4 +1,4 @@
--- Last places: of those meant so far, and of one more.
+-- Last places: for a set of transactions, and for one more of them.
 use Rattle.std.proofs.Common.{◌≡◌, ◌<◌, ◌≤◌, ◌+◌, ◌==◌, ◌↔◌, ◌⊎◌, inl, inr, ℕ, true, false, ◌&&◌, nat_lt, List, [], length, get_or, take, replicate}
 use Rattle.std.proofs.Common.{slice_index, refl, sym, ◌∙◌, subst, arith}
 use Rattle.std.specs.Prelude.{max}
@@ -57,7 +57,7 @@ last_both h P Q session m n first second = record {
     which (inl less) = from_first less first.attained
     which (inr more) = from_second more second.attained
 
--- the last of one alone, and of others
+-- the last of one alone, and of a set
 last_one : (h : History) (Q : ℕ → Type 0) (session p n : ℕ) → p < count h → IsLastOf h Q session n
     → IsLastOf h (λ b. Q b ⊎ (b ≡ p)) session (raised h p session n)
 last_one h Q session p n below is = go (cases_Bool (nat_lt 0 p && (owner h p == session)))

@@ -1,4 +1,4 @@
--- Where no transaction can be placed next: what is left, and the cycle that there is then.
+-- If no transaction can be placed next: what is left, and the cycle that then exists.
 use Rattle.std.proofs.Common.{◌≡◌, ◌<◌, ◌∙◌, ◌⊎◌, inl, inr, ℕ, Bool, true, false, List, [], ◌∷◌, length, sym, arith}
 use Rattle.std.specs.List.{Contains}
 use Rattle.std.proofs.lemmas.List.Elements.{Contains-append_left, Contains-append_right, Contains-append_cases}
@@ -24,7 +24,7 @@ use Rattle.tcc_order.proofs.Finding.{circle_cycle}
 use Rattle.tcc_order.proofs.Fronts.{Says, holds_there, holds_parts, placed_free}
 use Rattle.tcc_order.proofs.Greedy.{IsBelow}
 
--- where fewer than all were placed, and none is free
+-- fewer than all were placed, and none is free
 pub stuck_placed : (precedes : ℕ → ℕ → Bool) (n : ℕ) (placed done : List ℕ) → Says placed done → IsBelow precedes n
     → ((x : ℕ) → IsFreeBy precedes n placed x → ⊥) → length done < n → IsStuckBy precedes n placed
 stuck_placed precedes n placed done says bounds none short = record {
@@ -38,7 +38,7 @@ stuck_placed precedes n placed done says bounds none short = record {
         (v.0, (v.1.0, says v.0 ∙ v.1.1), v.2)
 
 module _ (j : Judged) (kept : List (List ℕ)) where
-  -- by links that are kept
+  -- by kept links
   pub stuck_of : length kept ≡ count j.history → AreDerived (Derives j) kept → (placed : List ℕ) → IsStuckBy (holds j.history kept) (count j.history) placed
       → IsStuck j kept placed
   stuck_of long derived placed is = record { long = long; derived = λ a b there. pair a b (derived a b there); some = is.some; held = λ x left. held x left }
@@ -67,7 +67,7 @@ module _ (j : Judged) (kept : List (List ℕ)) where
       prior : HasBefore (holds j.history kept) (IsLeft j placed)
       prior x left = let w = is.held x left in (w.0, w.1, holds_there j.history kept w.0 x w.1.0 left.0 (there w.0 x w.2))
 
--- ---- where nothing is kept
+-- ---- if no links are kept
 module _ (h : History) (numbered : IsBySession h.entries) (kept : List (List ℕ)) (none : HasNone kept) where
   holds_pair : (b x : ℕ) → holds h kept b x ≡ true → IsCausalPair h b x
   holds_pair b x p = let w = holds_parts h kept b x p in go w.0 w.1 (Contains-append_cases (parents h x) (row_of kept x) b w.2)
@@ -94,7 +94,7 @@ module _ (h : History) (numbered : IsBySession h.entries) (kept : List (List ℕ
       go : HasCircle (holds h kept) → (a : ℕ) × IsReached h a a
       go (a, between, p) = (a, joined a a between p)
 
--- right before each that is left stands one that is left
+-- right before each that is left there is one that is left
 pub pairs_left : (h : History) (kept : List (List ℕ)) → HasNone kept → (placed : List ℕ) → IsStuckBy (holds h kept) (count h) placed → ArePairsStuck h placed
 pairs_left h kept none placed is = record { some = (is.some.0, is.some.1.0, is.some.1.1); held = λ x low left. held x (is.held x (low, left)) }
   where
@@ -106,7 +106,7 @@ pairs_left h kept none placed is = record { some = (is.some.0, is.some.1.0, is.s
         → (b : ℕ) × (b < count h) × (is_marked placed b ≡ false) × Contains (parents h x) b
     held x (b, left, p) = (b, left.0, left.1, parent b x (Contains-append_cases (parents h x) (row_of kept x) b (holds_parts h kept b x p).2))
 
--- where an order of pairs stops, a transaction reaches itself
+-- if an order of pairs stops, a transaction reaches itself
 pub pairs_circle : (h : History) → IsBySession h.entries → (placed : List ℕ) → ArePairsStuck h placed → (a : ℕ) × IsReached h a a
 pairs_circle h numbered placed is = stuck_pairs h numbered [] nothing placed record {
   some = (is.some.0, (is.some.1, is.some.2));

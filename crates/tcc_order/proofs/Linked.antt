@@ -95,6 +95,6 @@ found j a b p = go (or_cases (causal_pair j.history a b) (has_reason j a b) p)
     go (inl causal) = causal_found j a b (pair_kinds j.history a b causal)
     go (inr reason) = reason_found j a b reason
 
--- the test passes exactly where some link leads
+-- the test passes exactly if some link leads there
 pub linked_precedence : (j : Judged) → IsPrecedence j (linked j)
 linked_precedence j a b = (found j a b, λ w. rw (← w.1.from, ← w.1.to) (linked_there j w.0 w.1.link))

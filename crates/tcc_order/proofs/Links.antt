@@ -1,4 +1,4 @@
--- Which links lead to a transaction, by the reads from it; and what is found of a level.
+-- Which links lead to a transaction, by the reads from it; and the result for a level.
 use Rattle.std.proofs.Common.{◌≢◌, ◌↔◌, ◌⊎◌, inl, inr, ℕ, List}
 use Rattle.std.specs.Prelude.{Option, MatchOption}
 use Rattle.std.specs.Global.{Vec}
@@ -15,7 +15,7 @@ use Rattle.tcc_graph.specs.declared.link.Link.TheVariants as link
 use Rattle.tcc_order.proofs.Kept.{IsLinked, has_link}
 use Rattle.tcc_order.specs.private.CausalLinks.{IsAllowedFrom}
 
--- what stands before a by a pair, or by a reason over a reader of a
+-- b is before a by a pair, or by a reason over a reader of a
 abbrev pub IsLinkedBy : Judged → ℕ → ℕ → Type 0
 IsLinkedBy j b a = IsCausalPair j.history b a
     ⊎ ((c : ℕ) × (x : List ℕ) × IsReadsPair j.history a c x × Contains (writers j.history x) b × (b ≢ a) × IsAllowedFrom j b c)
@@ -33,6 +33,6 @@ linked_by j b a = (there, λ w. rw (← w.1.from, ← w.1.to) (back w.0 w.1.link
     back (link.Reads a b x) p = inl (inr (x, p))
     back (link.Derived b a x c walk) p = inr (c, x, p.0.1, writer_in j.history x b (read_is_key j.history a c x p.0.1) p.0.2, p.0.0, (walk, p.1))
 
--- ---- what is found of a level: a cycle, or the first order
+-- ---- the result for a level: a cycle, or the first order
 abbrev pub IsFound : Judged → Option (Vec ℕ) → Type 0
 IsFound j found = MatchOption found (HasCycle j) (λ order. IsFirstOrder j order.items)

@@ -1,4 +1,4 @@
--- What has to stand before a transaction: the writers that a clock reaches, the readings one by one, and the links that are kept.
+-- What has to be before a transaction: the writers that a clock reaches, the readings one by one, and the kept links.
 use Rattle.std.proofs.Common.{◌≡◌, ◌≢◌, ◌<◌, ◌≤◌, ◌+◌, ◌-◌, ◌==◌, ◌⊎◌, inl, inr, ℕ, Bool, true, false, not, ◌&&◌, nat_lt, List, [], ◌∷◌, ◌++◌, length, get_or, set, take}
 use Rattle.std.proofs.Common.{slice_index, refl, sym, ap, ◌∙◌, subst, arith}
 use Rattle.std.specs.Prelude.{max, nat_le}
@@ -21,7 +21,7 @@ use Rattle.tcc_clocks.proofs.EntryLemmas.{clock_reaches}
 use Rattle.tcc_clocks.proofs.Reaching.{same_session}
 use Rattle.tcc_order.proofs.KeptRows.{row_here, rows_wider, rows_derived}
 
--- ---- one writer more
+-- ---- one more writer
 pub lifted_none : (owners : List ℕ) (from : ℕ) (clock writers : List ℕ) (a k old : ℕ) → IsLifted owners from clock (take 0 writers) a k old old
 lifted_none owners from clock writers a k old = record {
   attained = inl refl;
@@ -97,7 +97,7 @@ pub covered_wider : (h : History) (old new : List (List ℕ)) (a b : ℕ) → ((
 covered_wider h old new a b wider (d, way, inl (e, there, up_to)) = (d, way, inl (e, wider e d there, up_to))
 covered_wider h old new a b wider (d, way, inr reached) = (d, way, inr reached)
 
--- one transaction more, whose links from this block are kept
+-- one more transaction, whose links from this block are kept
 abbrev pub IsUpTo : History → ℕ → ℕ → ℕ → ℕ → Type 0
 IsUpTo h from n a b = IsFrom h from (from + WIDE) a b × (a < n)
 
@@ -119,7 +119,7 @@ module _ (h : History) (numbered : IsBySession h.entries) (kept : List (List ℕ
       subst (λ (z : ℕ). AreRuns h kept from a z new) own
       (subst (λ (z : List ℕ). AreRuns h kept from a (owner h (a - 1)) z) (sym is) (runs more))
 
-  -- behind a transaction into which nothing is kept
+  -- after a transaction into which nothing is kept
   pub runs_passed : (run : List ℕ) → AreRuns h kept from a (owner h a) run → 1 < a + 1 → AreRuns h kept from (a + 1) (owner h (a + 1 - 1)) run
   runs_passed run runs more = λ k l. go k (runs k l)
     where
@@ -137,7 +137,8 @@ module _ (h : History) (numbered : IsBySession h.entries) (kept : List (List ℕ
           self = omega arith
 
 -- ---- kept links
--- what is kept of one transaction, what is kept of earlier ones of its session, and the clock of it cover what has to stand before it
+-- what is kept into a transaction, what is kept into earlier ones of its session, and its clock together cover what has to be
+-- before it
 module _ (h : History) (numbered : IsBySession h.entries) (from a : ℕ) (low : a < count h) (kept : List (List ℕ)) (long : length kept ≡ count h)
     (new need clock before after : List ℕ) (needs : AreLatestPast h (IsOverwritten h (IsReadsPair h a) a) from clock need)
     (reaches : AreLatestOf h (IsBefore h a) from clock) (keeps : KeepsNews need clock before after (row_of kept a) new (length need)) where
@@ -217,7 +218,7 @@ module _ (h : History) (numbered : IsBySession h.entries) (from a : ℕ) (low : 
             (row_covers b (subst (λ (z : ℕ). Overwrites h z b) same over) some meant.0 meant.1)
         go (inr other) = covered_wider h kept (set kept a new) d b wider (are d b over some (meant, omega (arith, less, other)))
 
-    -- the runs behind it
+    -- the runs after it
     pub runs_kept : 1 < a + 1 → AreRuns h (set kept a new) from (a + 1) (owner h (a + 1 - 1)) after
     runs_kept more = λ k l. go k l (keeps.run k (omega (arith, l, needs.wide)))
       where
@@ -257,7 +258,7 @@ module _ (h : History) (numbered : IsBySession h.entries) (from a : ℕ) (low : 
         go k l (inl at) = was k at (runs k l)
         go k l (inr w) = now k w.0 w.1 (needs.each k l).attained
 
--- where readers tell of a transaction no more than its clock does, nothing more is kept of it
+-- if the readers of a transaction tell no more than its clock does, no more links are kept into it
 pub passed_enough : (h : History) → IsBySession h.entries → (from a : ℕ) → a < count h → (table : List (List ℕ)) → AreClocks h from table
     → ((c : ℕ) (x : List ℕ) → IsReadsPair h a c x → TellsNone h from table a c x) → (kept : List (List ℕ)) → AreEnough h (Overwrites h) (IsUpTo h from a) kept
     → AreEnough h (Overwrites h) (IsUpTo h from (a + 1)) kept

@@ -1,4 +1,4 @@
--- Who is new: what the rows of last writers hold, and what a clock holds where none of them is past it.
+-- Which transactions are new: what the rows of last writers hold, and what a clock holds if none of them is past it.
 use Rattle.std.proofs.Common.{◌≡◌, ◌≢◌, ◌<◌, ◌≤◌, ◌+◌, ◌%◌, ◌==◌, ◌↔◌, ◌⊎◌, inl, inr, ℕ, suc, true, false, ◌&&◌, nat_lt, List, [], ◌∷◌, ◌++◌, length, map, filter, get_or, set, take}
 use Rattle.std.proofs.Common.{slice_index, refl, sym, ap, ◌∙◌, subst, arith}
 use Rattle.std.specs.Prelude.{max, min}
@@ -37,7 +37,7 @@ use Rattle.tcc_order.proofs.OrderOrCycle.{before_join}
 -- ---- what is known
 module _ (h : History) (numbered : IsBySession h.entries) (owners : List ℕ) (are : AreOwners h owners) (from floor : ℕ) (is_floor : IsFloor owners from floor)
     (table : List (List ℕ)) (a : ℕ) (low : a < count h) (clock : HasClock h from table a) where
-  -- another of the block that is no greater than what is known is held by the clock
+  -- each other transaction of the block up to the known number is held by the clock
   known_holds : (P : ℕ → Type 0) (k b : ℕ) → k < WIDE → IsOneOf h P (from + k) b → b ≢ a → b ≤ known_of owners from floor (row_of table a) a k
       → b ≤ slice_index (row_of table a) k
   known_holds P k b l one apart upto = go (cases_Bool (nat_lt 0 a && (slice_index owners a == from + k)))
@@ -92,7 +92,7 @@ module _ (h : History) (numbered : IsBySession h.entries) (owners : List ℕ) (a
         = noted key_index k b within l record { committed = one.committed; below = one.below; owned = one.owned; meant = (one.meant.0, one.meant.2) } in
         known_holds (IsOtherWriter h a c (key_at h key_index)) k b l one one.meant.1 (omega (arith, up, new, less k l, is k l))
 
--- one number more
+-- one more number
 pub alike_more : (P : ℕ → Type 0) (n : ℕ) → ((k : ℕ) → 0 < k → k < n → P k) → P n → (k : ℕ) → 0 < k → k < n + 1 → P k
 alike_more P n was here k above l = go (cases_eq k n)
   where
@@ -100,14 +100,14 @@ alike_more P n was here k above l = go (cases_eq k n)
     go (inl same) = subst P (sym same) here
     go (inr other) = was k above (omega (arith, l, other))
 
--- what a transaction reads from has its clock, where those right before it have theirs
+-- what a transaction reads from has its clock, if those right before it have theirs
 pub source_clock : (h : History) (from : ℕ) (table : List (List ℕ)) (c : ℕ) (found : List ℕ) → found ≡ parents h c → All (HasClock h from table) found
     → (a : ℕ) (x : List ℕ) → IsReadsPair h a c x → HasClock h from table a
 source_clock h from table c found is clocks a x pair =
     All-contains (HasClock h from table) found a clocks
     (rw is (Contains-append_right (previous_one h c) (sources h c) a (reads_source h a c x pair.2)))
 
--- where all that a transaction reads from have its row it tells nothing
+-- if all that a transaction reads from have its row, it tells nothing
 pub told_alike : (h : History) → IsBySession h.entries → (owners : List ℕ) → AreOwners h owners → (from floor : ℕ) → IsFloor owners from floor
     → (table : List (List ℕ)) (c : ℕ) → HasClock h from table c → (found : List ℕ) → found ≡ parents h c → All (HasClock h from table) found → 0 < c
     → ((k : ℕ) → 0 < k → k < length found → row_of table (get_or found k 0) ≡ row_of table c) → (a : ℕ) (x : List ℕ) → IsReadsPair h a c x
@@ -125,13 +125,13 @@ told_alike h numbered owners are from floor is_floor table c clock found is cloc
         (sym (subst (λ (z : ℕ). row_of table z ≡ row_of table c) at (same (suc j) (omega arith) inside)))
 
 -- ---- the reads of one transaction
--- what is told stays so where rows get longer
+-- what is among the readings, or tells nothing more, stays so when rows get longer
 pub still_told : (h : History) (from : ℕ) (table : List (List ℕ)) (a c : ℕ) (x : List ℕ) (old new : List (ℕ × ℕ))
     → ((reading : ℕ × ℕ) → Contains old reading → Contains new reading) → IsTold h from table a old c x → IsTold h from table a new c x
 still_told h from table a c x old new wider (inl (key_index, name, there)) = inl (key_index, name, wider (c, key_index) there)
 still_told h from table a c x old new wider (inr tells) = inr tells
 
--- the first n of these reads are told
+-- the first n of these reads are among the readings, or tell nothing more
 abbrev pub IsReadTold : History → ℕ → List (List ℕ) → ℕ → List (List (ℕ × ℕ)) → ℕ × ℕ → Type 0
 IsReadTold h from table c rows read = IsTold h from table read.1 (row_of rows read.1) c (key_at h read.0)
 
@@ -149,7 +149,7 @@ told_more h from table c reads old new n wider told here j l = go (cases_eq j n)
     go (inl same) = subst (λ (z : ℕ). IsReadTold h from table c new (get_or reads z (0, 0))) (sym same) here
     go (inr other) = still (get_or reads j (0, 0)) (told j (omega (arith, l, other)))
 
--- one reading more in the row of its source
+-- one more reading in the row of its source
 module _ (rows : List (List (ℕ × ℕ))) (a : ℕ) (inside : a < length rows) (one : ℕ × ℕ) where
   abbrev longer : List (List (ℕ × ℕ))
   longer = set rows a (row_of rows a ++ one ∷ [])
@@ -184,7 +184,7 @@ module _ (rows : List (List (ℕ × ℕ))) (a : ℕ) (inside : a < length rows) 
           subst (λ (z : ℕ). (p < length (keys h)) × IsReadsPair h z c (key_at h p)) (sym same)
           (which (Contains-push_cases (row_of rows a) one (c, p) (rw (same, here_longer) at there)))
 
--- each read stands among them
+-- each read is among them
 pub told_all : (h : History) (from : ℕ) (table : List (List ℕ)) (c : ℕ) (reads : List (ℕ × ℕ)) (rows : List (List (ℕ × ℕ)))
     → map (λ read. (key_at h read.0, read.1)) reads ≡ (entry_at h c).reads → AreTold h from table c reads rows (length reads) → (a : ℕ) (x : List ℕ)
     → IsReadsPair h a c x → IsTold h from table a (row_of rows a) c x
@@ -282,7 +282,7 @@ module _ (key_indices : List ℕ) (i session number : ℕ) (old mid : List (List
           let e : slice_index (row_of new slot) session ≡ max number (slice_index (row_of mid slot) session) = ap (λ r. slice_index r session) same_row ∙ at in
           rw (long, ← here) (omega (arith, e))
 
--- fewer are meant
+-- a smaller set of transactions
 pub noted_fewer : (h : History) (from : ℕ) (P Q : ℕ → Type 0) (rows : List (List ℕ)) → ((b : ℕ) → P b → Q b) → AreNoted h from Q rows → AreNoted h from P rows
 noted_fewer h from P Q rows fewer noted key_index k b within l one =
     noted key_index k b within l
@@ -303,7 +303,7 @@ noted_more h from order n old new inside long rise here noted key_index k b with
         = noted key_index k b within l record { committed = one.committed; below = one.below; owned = one.owned; meant = (one.meant.0, was) } in
         rw long (omega (arith, before, rise (key_index % length old) k))
 
--- the key at an index that a transaction writes is one of those that are listed
+-- the index of a key that a transaction writes is among the listed ones
 written_key : (h : History) (c : ℕ) → 0 < c → (key_indices : List ℕ) → map (key_at h) key_indices ≡ (entry_at h c).writes
     → All (λ key_index. key_index < length (keys h)) key_indices → (key_index : ℕ) → key_index < length (keys h)
     → Contains (writers h (key_at h key_index)) c → Contains key_indices key_index
@@ -328,7 +328,7 @@ noted_raised h owners are from c session some below mine key_indices named all o
     let writer : Contains (writers h (key_at h key_index)) c = subst (λ (z : ℕ). Contains (writers h (key_at h key_index)) z) same one.meant.0 in
     rw (same, column) (raised.1 key_index (written_key h c some key_indices named all key_index within writer))
 
--- a transaction of no session of the block
+-- a transaction in no session of the block
 pub noted_outside : (h : History) (from c : ℕ) (rows : List (List ℕ)) → ((k : ℕ) → 0 < c → k < WIDE → owner h c ≢ from + k) → AreNoted h from (λ b. b ≡ c) rows
 noted_outside h from c rows apart key_index k b within l one =
     let same : b ≡ c = one.meant.1 in
@@ -363,7 +363,7 @@ module _ (h : History) (order : List ℕ) (numbering : IsNumbering (count h) ord
       noted_fewer h from (λ b. IsReached h b (get_or order n 0)) (Contains (take n order)) rows
       (λ b reached. reached_passed n b inside reached) noted
 
--- the readings of those that stand before index n are told
+-- the readings of those before index n are in the rows, or tell nothing more
 abbrev pub ArePassed : History → ℕ → List (List ℕ) → List ℕ → List (List (ℕ × ℕ)) → ℕ → Type 0
 ArePassed h from table order rows n =
     (j : ℕ) → j < n → (a : ℕ) (x : List ℕ) → IsReadsPair h a (get_or order j 0) x → IsTold h from table a (row_of rows a) (get_or order j 0) x
@@ -380,7 +380,7 @@ passed_more h from table order old new n wider here told j l a x pair = go (case
         subst (λ (z : ℕ). IsTold h from table a (row_of new a) (get_or order z 0) x) (sym same)
         (here a x (subst (λ (z : ℕ). IsReadsPair h a (get_or order z 0) x) same pair))
 
--- the next one has its row now: none of those that were read from is it
+-- the next one has its row now: it is none of those that were read from
 pub passed_still : (h : History) (from : ℕ) (table : List (List ℕ)) (row : List ℕ) (order : List ℕ) (rows : List (List (ℕ × ℕ))) (n : ℕ)
     → IsNumbering (count h) order → LeadsOnward h order → n < length order → ArePassed h from table order rows n
     → ArePassed h from (set table (get_or order n 0) row) order rows n
@@ -428,7 +428,7 @@ news_sorted h from table old new same sorted news = record {
   };
 }
 
--- one row put in order, or one more that is in order already
+-- one more row sorted, or one that is in order already
 pub sorted_none : (rows : List (List (ℕ × ℕ))) → AreSorted rows rows
 sorted_none rows a reading = (λ there. there, λ there. there)
 
@@ -444,7 +444,7 @@ sorted_more old mid index row inside permuted sorted a reading = go (cases_eq a 
           λ there. Contains-permutation (row_of mid index) row reading permuted ((sorted index reading).1 there),
         )
 
--- what has no readings tells nothing
+-- a transaction without readings tells nothing
 pub nothing_told : (h : History) (from : ℕ) (table : List (List ℕ)) (a : ℕ) (readings : List (ℕ × ℕ)) → AreNewsOf h from table a readings → readings ≡ []
     → (c : ℕ) (x : List ℕ) → IsReadsPair h a c x → TellsNone h from table a c x
 nothing_told h from table a readings news none c x pair = go (news.enough c x pair)
@@ -453,7 +453,7 @@ nothing_told h from table a readings news none c x pair = go (news.enough c x pa
     go (inl (key_index, name, there)) = absurd (nothing_in (c, key_index) (rw none at there))
     go (inr tells) = tells
 
--- who reads is a transaction
+-- each reader is a transaction
 pub news_readers : (h : History) (from : ℕ) (table : List (List ℕ)) (rows : List (List (ℕ × ℕ))) → AreNews h from table rows → (n : ℕ) → n ≡ count h
     → All (λ row. All (λ reading. reading.0 < n) row) rows
 news_readers h from table rows news n whole k d l = rw (get_or_default rows k d [] l, whole) (readers k)
@@ -466,7 +466,7 @@ news_readers h from table rows news n whole k d l = rw (get_or_default rows k d 
 -- ---- heads
 module _ (h : History) (numbered : IsBySession h.entries) (owners : List ℕ) (are : AreOwners h owners) (from floor : ℕ) (is_floor : IsFloor owners from floor)
     (table : List (List ℕ)) (a : ℕ) (low : a < count h) (clock : HasClock h from table a) where
-  -- who has a head that is known is a, or reaches it
+  -- a transaction that has a known head is a, or reaches a
   head_known : (b z : ℕ) → IsKnown owners from floor (row_of table a) a z → IsHead h floor b z → (b ≡ a) ⊎ IsReached h b a
   head_known b z (inl under) head = absurd (omega (arith, under, head.0))
   head_known b z (inr (inl same)) head = go head.1
@@ -496,7 +496,7 @@ module _ (h : History) (numbered : IsBySession h.entries) (owners : List ℕ) (a
       go (inr (inl here)) = inr (subst (λ (y : ℕ). IsReached h y a) (sym here) leads)
       go (inr (inr reached)) = inr (reached_append h b z a reached leads)
 
-  -- so a reader of what has it tells nothing
+  -- so a reader of what has that head tells nothing
   pub told_head : (c key_index z : ℕ) → key_index < length (keys h) → (heads : List ℕ) → HaveHeads h from floor (λ b. IsReached h b c) heads
       → slice_index heads (key_index % length heads) ≡ z → IsKnown owners from floor (row_of table a) a z → TellsNone h from table a c (key_at h key_index)
   told_head c key_index z within heads have is known k b l one = go (head_known b z known head)
@@ -511,7 +511,7 @@ module _ (h : History) (numbered : IsBySession h.entries) (owners : List ℕ) (a
       go (inr reached) =
           (clock.each k l).greatest b record { committed = one.committed; below = one.below; owned = one.owned; meant = reached }
 
-  -- the head after a itself was noted
+  -- a transaction above the floor has itself as a head
   pub head_own : floor < a → IsHead h floor a a
   head_own above = (above, inr (inl refl))
 
@@ -571,7 +571,7 @@ module _ (h : History) (from floor c : ℕ) (key_indices : List ℕ) (i : ℕ) (
       go (inr apart) (inl was) = subst (λ (y : ℕ). IsHead h floor c y) (sym (head_else (key_index % length heads) apart)) (own key_index was)
       go (inr apart) (inr same) = absurd (apart (ap (λ (y : ℕ). y % length heads) (sym same) ∙ sym is_slot))
 
--- fewer are meant
+-- a smaller set of transactions
 pub heads_fewer : (h : History) (from floor : ℕ) (P Q : ℕ → Type 0) (heads : List ℕ) → ((b : ℕ) → P b → Q b) → HaveHeads h from floor Q heads
     → HaveHeads h from floor P heads
 heads_fewer h from floor P Q heads fewer have key_index k b within l one =
@@ -596,7 +596,7 @@ heads_more h from floor order n rows old new inside long beside noted keeps own 
         let under : b ≤ slice_index (row_of rows (key_index % length old)) k = rw beside up in
         rw long (keeps (key_index % length old) k b l record { committed = one.committed; below = one.below; owned = one.owned; meant = tt } before under)
 
--- a transaction of the block whose keys have it
+-- a transaction of the block that has the head of its keys
 pub heads_raised : (h : History) (owners : List ℕ) → AreOwners h owners → (from floor c session : ℕ) → 0 < c → c < count h
     → (key_indices : List ℕ) → map (key_at h) key_indices ≡ (entry_at h c).writes → All (λ key_index. key_index < length (keys h)) key_indices
     → (heads : List ℕ) → HasHeads h floor c key_indices heads → HaveHeads h from floor (λ b. b ≡ c) heads

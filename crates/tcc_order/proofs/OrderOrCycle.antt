@@ -1,4 +1,4 @@
--- A commit order exists exactly where there is no cycle.
+-- A commit order exists exactly if there is no cycle.
 use Rattle.std.proofs.Common.{◌≡◌, ◌<◌, ℕ, zero, suc, ◌+◌, Bool, true, false, ◌&&◌, ◌⊎◌, inl, inr, List, [], ◌∷◌, ◌++◌, length, length-append, not, refl, sym}
 use Rattle.std.proofs.Common.{◌∙◌, arith, subst}
 use Rattle.std.proofs.lemmas.Bool.{and_parts, and_from, cases_Bool, false≢true, not-true}
@@ -35,9 +35,9 @@ pub no_cycle : (j : Judged) (order : List ℕ) → IsCommitOrder j order → Has
 no_cycle j order o (s, [], (some, p)) = absurd (omega arith)
 no_cycle j order o (s, l ∷ links, (some, p)) = not_itself (count j.history) order s o.numbering (along j order s s l links o p)
 
--- ---- picked from the front, either all numbers stand in order or there is a circle
+-- ---- picked from the front, either all numbers are in order or there is a cycle
 
--- x may be picked next
+-- x can be picked next
 abbrev free : (ℕ → ℕ → Bool) → ℕ → List ℕ → ℕ → Bool
 free precedes n done x = not (has done x) && not (any_below (lacks precedes done x) n)
 

@@ -1,4 +1,4 @@
--- The least of the numbers that are ready, and what is ready or waits once one more was placed.
+-- The least of the numbers that are ready, and what is ready or waits after one more was placed.
 use Rattle.std.proofs.Common.{◌≡◌, ◌≢◌, ◌<◌, ◌≤◌, ◌+◌, ◌==◌, ◌&&◌, ◌||◌, ◌⊎◌, ◌↔◌, inl, inr, ℕ, zero, suc, Bool, true, false, List, [], ◌∷◌, ◌++◌, map, length, set, slice_index, nat_lt}
 use Rattle.std.proofs.Common.{refl, sym, ap, ◌∙◌, subst, arith}
 use Rattle.std.specs.List.{Contains}
@@ -42,7 +42,7 @@ moved_all f xs ys same y there =
     let w = from_map f xs y there in
     subst (λ (z : ℕ). Contains (map f ys) z) w.2 (in_map f ys w.0 (Contains-permutation xs ys w.0 same w.1))
 
--- one of a list with one more in front
+-- an element of a list with one more in front
 in_front : {X : Type 0} (f : X → ℕ) (x : X) (xs : List X) (y : ℕ) → Contains (map f (x ∷ xs)) y → Contains (map f xs) y ⊎ (y ≡ f x)
 in_front f x xs y (zero, l, e) = inr (sym e)
 in_front f x xs y (suc k, l, e) = inl (k, omega (arith, l), e)
@@ -106,7 +106,7 @@ queued_popped precedes ps placed old new waiting x is rest still = record {
         by (inr still_there) = inl still_there
     go y other left (inr w) = inr w
 
--- a queue without x is the whole queue where x was placed
+-- a queue without x is the whole queue if x was placed
 pub queued_placed : (precedes : ℕ → ℕ → Bool) (ps placed ready : List ℕ) (waiting : List (List ℕ)) (x : ℕ) → AreQueued precedes ps placed (IsNot x) ready waiting
     → is_marked placed x ≡ true → AreQueued precedes ps placed IsAny ready waiting
 queued_placed precedes ps placed ready waiting x is done = record {
@@ -124,7 +124,7 @@ front_cases : (x : ℕ) (xs : List ℕ) (y : ℕ) → Contains (x ∷ xs) y → 
 front_cases x xs y (zero, l, e) = inr e
 front_cases x xs y (suc k, l, e) = inl (k, omega (arith, l), e)
 
--- or waits from now on
+-- or it waits from now on
 module _ (precedes : ℕ → ℕ → Bool) (ps placed ready : List ℕ) (waiting : List (List ℕ)) (x b : ℕ) (is : AreQueued precedes ps placed (IsNot x) ready waiting)
     (low : x < length ps) (to : b < length ps) (left : is_marked placed b ≡ false) (held : precedes b x ≡ true) where
   abbrev row : List ℕ
@@ -252,12 +252,12 @@ queued_after precedes n ps are placed ready woken marks waiting next is free now
     put y (inl w) = from y ((wake y).0 w)
     put y (inr w) = inl (inl w)
 
--- all that is ready is sure once more are placed, and fewer are ready
+-- all that is ready stays sure after more are placed, and when fewer are ready
 pub sure_after : (precedes : ℕ → ℕ → Bool) (placed marks old new : List ℕ) (next : ℕ) → AreSure precedes placed old → ((y : ℕ) → Contains new y → Contains old y)
     → ((b : ℕ) → is_marked marks b ≡ (is_marked placed b || (b == next))) → AreSure precedes marks new
 sure_after precedes placed marks old new next sure still now x there b p = now b ∙ rw (sure x (still x there) b p) refl
 
--- all that is ready is sure once one more that is free is ready
+-- all that is ready is sure after one more free number is ready
 pub sure_more : (precedes : ℕ → ℕ → Bool) (placed old new : List ℕ) (x : ℕ) → AreSure precedes placed old → ((b : ℕ) → precedes b x ≡ true → is_marked placed b ≡ true)
     → ((y : ℕ) → Contains new y ↔ (Contains old y ⊎ (y ≡ x))) → AreSure precedes placed new
 sure_more precedes placed old new x sure free put y there b p = go ((put y).0 there)
@@ -322,7 +322,7 @@ roots_more ps old new n are root put x = (λ there. from ((put x).0 there), λ w
     to l zero_parent (inr apart) = inl ((are x).1 (omega (arith, l, apart), zero_parent))
 
 -- ---- those that are woken
--- others are ready, and all that were
+-- other numbers are ready, and all that were before
 pub queued_wider : (precedes : ℕ → ℕ → Bool) (ps placed old new : List ℕ) (waiting : List (List ℕ)) → AreQueued precedes ps placed IsAny old waiting
     → ((y : ℕ) → Contains old y → Contains new y) → ((y : ℕ) → Contains new y → Contains old y) → AreQueued precedes ps placed IsAny new waiting
 queued_wider precedes ps placed old new waiting is more still = record {
@@ -392,8 +392,8 @@ woken_more old mid row x y both = (λ there. to (Contains-push_cases mid x y the
     back (inl was) = Contains-append_left mid (x ∷ []) y (both.1 was)
     back (inr at) = rw at (Contains-push mid x)
 
--- ---- by what is kept
--- who may come next is ready
+-- ---- by the kept links
+-- what can come next is ready
 pub all_ready : (h : History) (kept : List (List ℕ)) (ps : List ℕ) → ArePrevious h ps → {placed ready : List ℕ} {waiting : List (List ℕ)}
     → AreQueued (holds h kept) ps placed IsAny ready waiting → (x : ℕ) → IsFreeBy (holds h kept) (count h) placed x → Contains ready x
 all_ready h kept ps are {placed} {ready} {waiting} is x free =

@@ -1,4 +1,4 @@
--- Whether a transaction reaches another, and by a walk that a level allows, decided by a finite search.
+-- Whether a transaction reaches another, and whether by a walk that a level allows, decided by a finite search.
 use Rattle.std.proofs.Common.{◌≡◌, ℕ, Bool, true, List, [], ◌∷◌, refl, arith}
 use Rattle.tcc_reads.specs.History.{History, count}
 use Rattle.tcc_graph.specs.Relations.{causal_pair}

@@ -1,4 +1,4 @@
--- The readings that a graph lists, by the places of their keys.
+-- The readings that a graph lists, by the indices of their keys.
 use Rattle.std.proofs.Common.{◌≡◌, ◌<◌, ◌↔◌, ℕ, zero, suc, List, [], ◌∷◌, map, length, get_or, take, refl, sym, ap, subst, ◌∙◌, arith}
 use Rattle.std.specs.Prelude.{zip}
 use Rattle.std.specs.List.{Contains}
@@ -11,7 +11,7 @@ use Rattle.tcc_graph.proofs.NameLemmas.{has_name-contains}
 use Rattle.tcc_graph.proofs.WriterLemmas.{read_is_key}
 use Rattle.tcc_bits.proofs.Lists.{zip_at, zip_has, zip-long}
 
--- ---- keys by their places
+-- ---- keys by their indices
 mapped_at : (f : ℕ → List ℕ) (ps : List ℕ) (k : ℕ) (d : List ℕ) → k < length ps → get_or (map f ps) k d ≡ f (get_or ps k 0)
 mapped_at f [] k d l = absurd (omega arith)
 mapped_at f (p ∷ ps) zero d l = refl
@@ -29,7 +29,7 @@ mapped_from f (r ∷ rs) [] c x (k, l, e) = absurd (omega arith)
 mapped_from f (r ∷ rs) (q ∷ ps) c x (zero, l, e) = (q, (0, omega arith, ap (λ z. (z.0, q)) e), ap (λ z. z.1) e)
 mapped_from f (r ∷ rs) (q ∷ ps) c x (suc k, l, e) = let w = mapped_from f rs ps c x (k, omega arith, e) in (w.0, (suc w.1.0, omega (arith, w.1.1), w.1.2), w.2)
 
--- what is read stands at some place among the keys
+-- what is read is at some index among the keys
 pub key_place : (h : History) (a c : ℕ) (x : List ℕ) → IsReadsPair h a c x → (p : ℕ) × (p < length (keys h)) × (key_at h p ≡ x)
 key_place h a c x pair =
     let there = has_name-contains (keys h) x (has_name-keys h x ∙ read_is_key h a c x pair) in
@@ -60,11 +60,11 @@ module _ (h : History) (a : ℕ) (rs ps : List ℕ) (long : length rs ≡ length
   pub named_at : (k : ℕ) → k < length rs → get_or (map (key_at h) ps) k [] ≡ key_at h (get_or ps k 0)
   named_at k l = mapped_at (key_at h) ps k [] (omega (arith, long))
 
-  -- who reads is a transaction
+  -- each reader is a transaction
   pub reader_below : (k : ℕ) → k < length rs → get_or rs k 0 < count h
   reader_below k l = ((each (get_or rs k 0) (get_or ps k 0)).0 (zip_has rs ps k 0 long l)).1.1
 
-  -- each who reads is listed
+  -- each reader is listed
   pub reader_at : (c : ℕ) (x : List ℕ) → IsReadsPair h a c x → (k : ℕ) × (k < length rs) × (get_or rs k 0 ≡ c)
   reader_at c x pair = go ((named_each c x).1 pair)
     where

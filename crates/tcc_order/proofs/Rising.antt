@@ -1,4 +1,4 @@
--- Writers rise by number, so the last up to what a clock holds of a session is found by halving.
+-- Writers ascend by number, so a binary search finds the last one up to what a clock holds of a session.
 use Rattle.std.proofs.Common.{◌≡◌, ◌≢◌, ◌<◌, ◌≤◌, ◌+◌, ◌-◌, ◌⊎◌, inl, inr, ℕ, true, false, List, [], ◌∷◌, length, get_or, set, slice_index, refl, ◌∙◌, subst, arith}
 use Rattle.std.specs.List.{All, Contains}
 use Rattle.std.specs.List.Sorted.{IsNonDecreasing, IsPartitionPoint}
@@ -53,7 +53,7 @@ module _ (xs : List ℕ) (rising : IsNonDecreasing xs) (top end : ℕ) (within :
         omega (arith, w.2, rising w.0 (end - 1) 0 (omega (arith, w.1)) (omega (arith, some, within)));
   }
 
--- ---- and another than a
+-- ---- and other than a
 pub but_other : (xs : List ℕ) (top a last : ℕ) → IsLastUpTo xs top last → (last ≡ a → 0 < a → ⊥) → IsLastBut xs top a last
 but_other xs top a last is other = record { attained = go is.attained (cases_eq last a); greatest = λ b there apart up. is.greatest b there up }
   where
@@ -95,7 +95,7 @@ module _ (owners : List ℕ) (ordered : AreOrdered owners) (session top : ℕ) (
       go (inl none) = absurd (omega (arith, more, none))
       go (inr w) = (omega (arith, more), w.1, w.0, omega (arith, mine), w.2)
 
-  -- where the last is of another session, none of this one is there
+  -- if the last is of another session, none of this one is there
   pub lifted_none_else : (number < last → slice_index owners last ≡ session → ⊥) → IsLifted owners session (top ∷ []) ws a 0 number number
   lifted_none_else never = record { attained = inl refl; kept = omega arith; greatest = λ b w. go b w (cases_lt number last) }
     where
@@ -142,7 +142,7 @@ lifted_at owners from k clock ws a old new session top here at is = record {
     go (inl same) = inl same
     go (inr w) = inr (w.0, w.1, w.2, omega (arith, w.3, here), omega (arith, w.4, at))
 
--- ---- one session more
+-- ---- one more session
 module _ {owners : List ℕ} {from : ℕ} {clock ws : List ℕ} {a : ℕ} (old mid : List ℕ) {n v : ℕ} (inside : n < length mid)
     (before : (k : ℕ) → k < n → IsLifted owners from clock ws a k (slice_index old k) (slice_index mid k))
     (after : (k : ℕ) → n ≤ k → slice_index mid k ≡ slice_index old k)

@@ -26,7 +26,7 @@ all_links h sessions owned blocks are kept links =
     causal_links h kept links.long links.derived
     (λ a b over some t. links.enough a b over some (omega arith, omega (arith, owned b some over.1, blocks_cover sessions blocks (omega (arith, are)))))
 
--- where the last share ends, all blocks are behind
+-- the last share ends after all blocks
 pub all_shared : (h : History) (sessions : ℕ) → ((b : ℕ) → 0 < b → b < count h → owner h b < sessions) → (blocks : ℕ) → blocks ≡ div_ceil sessions 64
     → (n : ℕ) → 0 < n → (size : ℕ) → size ≡ div_ceil blocks n → (last : ℕ) → last ≡ n → (kept : List (List ℕ))
     → AreLinksFrom h 0 (min (size * last) blocks * WIDE) kept → AreLinks (causally h) kept
@@ -35,7 +35,7 @@ all_shared h sessions owned blocks are n some size sized last at kept links =
     let all : min (size * last) blocks ≡ blocks = omega (arith, covered) in
     all_links h sessions owned blocks are kept (rw all at links)
 
--- the links of a share behind those of the shares before it
+-- the links of a share after those of the shares before it
 module _ (h : History) (old more new : List (List ℕ)) (joined : AreJoined old more new) (first mid end : ℕ) where
   left : (a b : ℕ) → Contains (row_of old a) b → Contains (row_of new a) b
   left a b there = rw (joined a) (Contains-append_left (row_of old a) (row_of more a) b there)
@@ -75,7 +75,7 @@ module _ {V : Type 0} (E : Type 0) (P : ℕ → V → Type 0) where
   zipped (x ∷ xs) (y ∷ ys) zero d h l = h.0
   zipped (x ∷ xs) (y ∷ ys) (suc i) d h l = zipped xs ys i d h.1 (omega arith)
 
-  -- what a call gave for each number below n, where each call gave a value
+  -- what a call returned for each number below n, if each call returned a value
   pub each_given : (n : ℕ) (xs : List ℕ) (results : List (Result V E)) (items : List V) → xs ≡ range_with_len 0 n → AllZip (λ x r. IfOk r (P x)) xs results
       → ((ys : List V) × (results ≡ map Ok ys) × (items ≡ ys)) → (length items ≡ n) × ((i : ℕ) (d : V) → i < n → P i (get_or items i d))
   each_given n xs results items numbers given (ys, all, same) = (long, at)

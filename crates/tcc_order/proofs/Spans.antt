@@ -1,4 +1,4 @@
--- What is lifted by the writers of a block of sessions is lifted by all.
+-- What the writers of a block of sessions lift, all writers lift.
 use Rattle.std.proofs.Common.{◌≡◌, ◌<◌, ◌⊎◌, inl, inr, ℕ, List, length, arith}
 use Rattle.std.specs.List.{All}
 use Rattle.std.proofs.lemmas.List.Elements.{All-contains}
@@ -7,7 +7,7 @@ use Rattle.tcc_clocks.specs.private.Between.{IsBetween}
 use Rattle.tcc_clocks.specs.declared.latest.TheConstants.{WIDE}
 use Rattle.tcc_order.specs.private.CausalLinks.{IsLiftable, IsLifted}
 
--- what is lifted by the writers of the block is lifted by all writers
+-- what the writers of the block lift is lifted by all writers
 pub lifted_between : (owners : List ℕ) (from low high : ℕ) (clock xs part : List ℕ) (a k old new : ℕ) → k < WIDE → AreBounds owners from low high
     → All (λ b. b < length owners) xs → IsBetween xs low high part → IsLifted owners from clock part a k old new → IsLifted owners from clock xs a k old new
 lifted_between owners from low high clock xs part a k old new small bounds inside are is = record {

@@ -1,4 +1,4 @@
--- Links at `Atomic`: of one read the last own writer and the sources that write, read by read.
+-- Links at `Atomic`: for each read the last own writer and the sources that write, read by read.
 use Rattle.std.proofs.Common.{◌≡◌, ◌≢◌, ◌<◌, ◌≤◌, ◌+◌, ◌-◌, ◌↔◌, ◌⊎◌, inl, inr, ℕ, List, [], ◌∷◌, ◌++◌, length, length-append, map, get_or, take}
 use Rattle.std.proofs.Common.{slice_index, refl, sym, ap, ◌∙◌, arith}
 use Rattle.std.specs.List.{All, Contains}
@@ -110,7 +110,7 @@ module _ (h : History) (a : ℕ) (rs ps : List ℕ) (long : length rs ≡ length
   pairs = zip rs (map (key_at h) ps)
 
   module _ (k : ℕ) (inside : k < length rs) where
-    -- the reading at this place is one
+    -- the reading at this index is one
     reading : IsReadsPair h a (get_or rs k 0) (key_at h (get_or ps k 0))
     reading = ((each (get_or rs k 0) (get_or ps k 0)).0 (zip_has rs ps k 0 long inside)).1
 
@@ -122,7 +122,7 @@ module _ (h : History) (a : ℕ) (rs ps : List ℕ) (long : length rs ≡ length
         zip_at rs (map (key_at h) ps) k 0 [] (named_long h a rs ps long each) inside
         ∙ ap (λ (x : List ℕ). (get_or rs k 0, x)) (named_at h a rs ps long each k inside)
 
-    -- one reading more
+    -- one more reading
     split : (c : ℕ) (x : List ℕ) → IsTaken pairs (k + 1) c x → IsTaken pairs k c x ⊎ ((c ≡ get_or rs k 0) × (x ≡ key_at h (get_or ps k 0)))
     split c x there = go (Contains-push_cases (take k pairs) (get_or rs k 0, key_at h (get_or ps k 0)) (c, x) (rw more at there))
       where
@@ -230,7 +230,7 @@ module _ (writers : List ℕ) (a : ℕ) (old mid numbers : List ℕ) (n : ℕ) (
       to (inl was) = inl ((before b).1 (inl was))
       to (inr w) = one w.1 (one_of_taken numbers n inside b w.0)
 
--- one number kept, if it is some
+-- one number is kept, if there is one
 pub put_some : (old new : List ℕ) (last : ℕ) → 0 < last → ((d : ℕ) → Contains new d ↔ (Contains old d ⊎ (d ≡ last))) → (b : ℕ)
     → Contains new b ↔ (Contains old b ⊎ ((0 < last) × (b ≡ last)))
 put_some old new last some put b = (λ there. to ((put b).0 there), λ w. (put b).1 (back w))
@@ -256,7 +256,7 @@ other_new writers a b old new other put d = (λ there. to ((put d).0 there), λ 
     back (inl was) = inl was
     back (inr w) = inr w.0
 
--- ---- what the calls ask
+-- ---- what the calls require
 pub writers_inside : (h : History) (owners : List ℕ) → AreOwners h owners → (x : List ℕ) → All (λ b. b < length owners) (writers h x)
 writers_inside h owners known x =
     All-weaker (λ b. b < count h) (λ b. b < length owners) (λ b l. omega (arith, l, known.long)) (writers h x) (writers_below h x)

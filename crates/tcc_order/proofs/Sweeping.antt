@@ -1,4 +1,4 @@
--- One step along an order: the next transaction has its clock by those right before it, and theirs are as they were.
+-- One step along an order: the next transaction has its clock from those right before it, and their clocks are as they were.
 use Rattle.std.proofs.Common.{◌<◌, ◌+◌, ℕ, List, length, get_or, set, take}
 use Rattle.std.specs.List.{All, Contains}
 use Rattle.tcc_reads.specs.History.{History, IsBySession, count}

@@ -1,4 +1,4 @@
--- Pairs that join, by a finite search: from a to b by pairs whose numbers between are all below a bound.
+-- Joined pairs, by a finite search: from a to b by pairs whose numbers between are all below a bound.
 use Rattle.std.proofs.Common.{◌≡◌, ◌<◌, ℕ, zero, suc, Bool, true, ◌||◌, ◌&&◌, ◌⊎◌, inl, inr, arith}
 use Rattle.std.proofs.lemmas.Bool.{or_cases, and_parts, and_from, or_left, or_right, cases_eq}
 
@@ -52,7 +52,7 @@ within_join e (suc k) a m b l p q = go (λ h x y. within_join e k x m y h) (case
     go join (inl same) = within_through e k a b (to_middle e k a (ways e k a k (rw same at p))) (from_middle e k b (ways e k k b (rw same at q)))
     go join (inr apart) = join_ways e k a m b (join (omega arith)) (ways e k a m p) (ways e k m b q)
 
--- what joins holds of each pair and of two that meet
+-- a relation that has each pair, and joins two that meet, has what is joined
 pub within_sound : (e : ℕ → ℕ → Bool) (R : ℕ → ℕ → Type 0) → ((a b : ℕ) → e a b ≡ true → R a b) → ((a m b : ℕ) → R a m → R m b → R a b) → (k a b : ℕ)
     → within e k a b ≡ true → R a b
 unfolding within

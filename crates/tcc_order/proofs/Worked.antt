@@ -22,7 +22,7 @@ use Rattle.tcc_graph.proofs.Worked.{x, y, entry, stale_read, stale_cycle, stale_
 stale_read-no_order : (order : List ℕ) → IsCommitOrder (causally stale_read) order → ⊥
 stale_read-no_order order o = no_cycle (causally stale_read) order o (0, stale_cycle, stale_read-cycle)
 
--- ---- a walk of three pairs from a/1 to the reader c/2 of the initial value: a/1 stands before `init` at `Causal` alone
+-- ---- a walk of three pairs from a/1 to the reader c/2 of the initial value: a/1 is before `init` at `Causal` alone
 
 long_chain-linked : linked (causally long_chain) 1 0 ≡ true
 long_chain-linked =
@@ -32,7 +32,7 @@ long_chain-atomic : (walks level.Atomic long_chain 1 4 ≡ false) × (walks leve
 unfolding walks
 long_chain-atomic = (refl, refl, refl)
 
--- ---- a/1 writes x; b/1 writes x and y; c/1 reads y from b/1, and x from a/1: b/1 stands before a/1
+-- ---- a/1 writes x; b/1 writes x and y; c/1 reads y from b/1, and x from a/1: b/1 is before a/1
 
 abbrev later_writer : History
 later_writer = record {
@@ -54,7 +54,7 @@ later_writer-reason k = (
   ((omega arith, (refl, (omega arith, omega arith, (0, omega arith, refl)), refl)), one_pair k),
 )
 
--- in 0, 1, 2, 3 the number 1 stands at position 1 alone, and 2 at position 2 alone
+-- in 0, 1, 2, 3 the number 1 is at index 1 alone, and 2 at index 2 alone
 one_at : (i : ℕ) → slice_index (0 ∷ 1 ∷ 2 ∷ 3 ∷ []) i ≡ 1 → i ≡ 1
 one_at zero e = absurd (omega (arith, e))
 one_at (suc zero) e = refl
@@ -74,7 +74,7 @@ later_writer-not_by_number k o =
     let w = o.axiom_of 2 1 x 3 (step.Reads 2 3 y ∷ []) (later_writer-reason k) in
     absurd (omega (arith, w.2, two_at w.0 w.4, one_at w.1 w.5))
 
--- ---- what holds each back, where the link from b/1 to a/1 is kept
+-- ---- what holds each back, if the link from b/1 to a/1 is kept
 
 abbrev kept_link : List (List ℕ)
 kept_link = [] ∷ (2 ∷ []) ∷ [] ∷ [] ∷ []
@@ -88,7 +88,7 @@ later_writer-joins : Joins (holds later_writer kept_link) 2 3 (1 ∷ [])
 unfolding holds
 later_writer-joins = (refl, refl)
 
--- were c/1 kept before a/1, which it reads from, they would stand in a circle
+-- if c/1 were kept before a/1, which it reads from, they would make a cycle
 abbrev crossed : List (List ℕ)
 crossed = [] ∷ (3 ∷ []) ∷ [] ∷ [] ∷ []
 
@@ -96,7 +96,7 @@ crossed-circle : HasCircle (holds later_writer crossed)
 unfolding holds
 crossed-circle = (1, 3 ∷ [], (refl, refl))
 
--- by a pair a/1 and b/1 stand before c/1, and b/1, which writes x too, stands over the read of x from a/1
+-- a/1 and b/1 have a pair to c/1, and b/1, which writes x too, overwrites the read of x from a/1
 later_writer-steps : StepsOver later_writer 3 x 1 2
 later_writer-steps = record {
   some = omega arith;
@@ -105,11 +105,11 @@ later_writer-steps = record {
   pair = inr (y, (omega arith, omega arith, (0, omega arith, refl)));
 }
 
--- ---- parents: c/1 reads from a/1 and b/1, and nothing stands before it in its session but `init`
+-- ---- parents: c/1 reads from a/1 and b/1, and nothing but `init` is before it in its session
 
 later_writer-parents : (parents later_writer 3 ≡ 0 ∷ 1 ∷ 2 ∷ []) × (parents later_writer 1 ≡ 0 ∷ []) × (parents later_writer 0 ≡ [])
 later_writer-parents = (refl, refl, refl)
 
--- in one session the one right before: of a/2 that is a/1
+-- in one session the one right before: for a/2 that is a/1
 stale_read-parent : previous stale_read 2 ≡ 1
 stale_read-parent = refl

@@ -18,7 +18,7 @@ fork = record {
   entries = initial ∷ entry 0 1 (x ∷ []) [] ∷ entry 1 1 (y ∷ []) [] ∷ entry 2 1 [] ((x, 1) ∷ (y, 0) ∷ []) ∷ entry 3 1 [] ((x, 0) ∷ (y, 2) ∷ []) ∷ [];
 }
 
--- a/1 stands behind c/1
+-- a/1 reaches c/1
 fork-behind : IsLast fork 3 0 1
 fork-behind = record {
   attained =
@@ -43,7 +43,7 @@ fork-behind = record {
     places (suc (suc (suc (suc zero)))) behind = lit≤ tt
     places (suc (suc (suc (suc (suc b))))) behind = absurd (omega (arith, behind.below))
 
--- nothing stands behind `init`
+-- nothing reaches `init`
 fork-init : IsLast fork 0 0 0
 fork-init = record { attained = inl refl; greatest = λ b behind. absurd (not_reached b behind.reached) }
   where

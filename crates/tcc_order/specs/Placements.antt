@@ -1,4 +1,4 @@
--- The first commit order, or what is left where it stops.
+-- The first commit order, or what is left if it stops.
 use Rattle.std.specs.Prelude.{ℕ, ◌<◌, ◌≡◌, ◌⊎◌, false, List, length, Contains}
 use Rattle.tcc_reads.specs.History.{History, count}
 use Rattle.tcc_graph.specs.Levels.{Judged}
@@ -14,7 +14,7 @@ use Rattle.tcc_order.specs.declared.placement.Placement.TheVariants as placement
 use Rattle.tcc_order.specs.declared.placement.PairPlacement.{PairPlacement}
 use Rattle.tcc_order.specs.declared.placement.PairPlacement.TheVariants as pairs
 
--- b has to stand before a by a derived link
+-- b has to be before a by a derived link
 abbrev pub IsDerivedPair : Judged → ℕ → ℕ → Type 0
 IsDerivedPair j b a = (x : List ℕ) × (c : ℕ) × (walk : List Step) × IsReason j b a x c walk
 
@@ -26,7 +26,7 @@ IsLeft j placed x = (x < count j.history) × (is_marked placed x ≡ false)
 abbrev pub HoldsBack : Judged → List (List ℕ) → ℕ → ℕ → Type 0
 HoldsBack j kept b x = Contains (parents j.history x) b ⊎ Contains (row_of kept x) b
 
--- what is kept are derived links; some transactions are left, and each of them is held back by one that is left
+-- kept are derived links only; some transactions are left, and each of them is held back by one that is left
 pub record IsStuck (j : Judged) (kept : List (List ℕ)) (placed : List ℕ) : Type 0 where
   pub long : length kept ≡ count j.history
   pub derived : (a b : ℕ) → Contains (row_of kept a) b → IsDerivedPair j b a
@@ -37,7 +37,7 @@ abbrev pub IsPlacement : Judged → Placement → Type 0
 IsPlacement j (placement.Order order) = IsFirstOrder j order.items
 IsPlacement j (placement.Stuck stuck) = IsStuck j stuck.kept.items stuck.placed.items
 
--- causal pairs alone leave some transactions over, and right before each of them stands one that is left over
+-- causal pairs alone leave some transactions over, and right before each of them there is one that is left over
 pub record ArePairsStuck (h : History) (placed : List ℕ) : Type 0 where
   pub some : (x : ℕ) × (x < count h) × (is_marked placed x ≡ false)
   pub held : (x : ℕ) → x < count h → is_marked placed x ≡ false

@@ -1,7 +1,7 @@
-//! The links at `Atomic` that are kept: of each read the last writer of its key that the reader's session wrote before, and
-//! the writers that the reader reads from. A number is kept once by a sparse set (Briggs and Torczon): the place at which it was
-//! put down last says at once whether it is there; so each source of a reader is gone through once, however many keys are read
-//! from it. For R reads, each by a transaction with S sources, among W writers of a key that takes O(R S log W).
+//! The links at `Atomic` that are kept: for each read the last earlier writer of its key in the reader's session, and the
+//! writers that the reader reads from. A number is kept once by a sparse set (Briggs and Torczon): the index at which it was
+//! added last shows at once whether it is there. So each source of a reader is visited once, however many keys are read from
+//! it. For R reads, each by a transaction with S sources, among W writers of a key that takes O(R S log W).
 ghost use Rattle.std.specs.Prelude.{◌≡◌, ◌≢◌, ◌<◌, ◌≤◌, ◌-◌, ◌+◌, ◌⊎◌, ◌↔◌, ◌∷◌, [], ℕ, true, length, slice_index, All, Contains, IfOk, OnOk, IsTrue};
 ghost use Rattle.std.specs.List.Sorted.{IsNonDecreasing};
 ghost use Rattle.tcc_reads.specs.History.{IsBySession, count};
@@ -19,7 +19,7 @@ use tcc_clocks::{find_parents, owners};
 use tcc_graph::LargeGraph;
 use tcc_txn::NoMemory;
 
-/// The last writer other than `a` before `c` in its session, or 0 where there is none.
+/// The last writer other than `a` before `c` in its session, or 0 if there is none.
 fn last_writer(owners: &[u32], writers: &[u32], c: u32, a: u32) -> u32
     requires ordered { AreOrdered owners.now }
     requires rising { IsNonDecreasing writers.now }
@@ -31,7 +31,7 @@ fn last_writer(owners: &[u32], writers: &[u32], c: u32, a: u32) -> u32
     lift_session(owners, owners[c as usize] as usize, top, writers, a, 0)
 }
 
-/// Whether a number stands in a row, at the place where it was put down last.
+/// Whether a number is in a row, at the index where it was added last.
 fn is_held(kept: &Row<u32>, places: &[usize], b: u32) -> bool
     requires { b < length places.now }
     ensures { result ≡ true → Contains kept.now b }
@@ -57,7 +57,7 @@ fn keep_one(kept: &mut Row<u32>, places: &mut [usize], b: u32) -> Result<(), NoM
     Ok(())
 }
 
-/// Whether a committed transaction other than `a` is one of these writers, which rise.
+/// Whether a committed transaction other than `a` is one of these writers, which ascend.
 fn is_other(writers: &[u32], b: u32, a: u32) -> bool
     requires { IsNonDecreasing writers.now }
     ensures { IsTrue result ↔ IsOther writers.now a b }
@@ -116,7 +116,7 @@ fn keep_last(kept: &mut Row<u32>, places: &mut [usize], last: u32) -> Result<(),
     Ok(())
 }
 
-/// Keeps of a read the links into what it reads.
+/// Keeps the links into what a read reads from.
 fn keep_read(
     kept: &mut Row<u32>,
     places: &mut [usize],

@@ -1,5 +1,5 @@
-//! Where a block of sessions begins in an order: no transaction of the block reaches one that stands before, so that the clocks of
-//! these are zeros, of which they share one row.
+//! The beginning of a block of sessions in an order: no transaction of the block reaches one before it. So the clocks of those
+//! before it are zeros, and they share one row.
 ghost use Rattle.std.specs.Prelude.{◌≡◌, ◌<◌, ◌≤◌, true, false, ℕ, length, replicate, slice_index, All, OnOk};
 ghost use Rattle.tcc_graph.specs.Tables.{row_of};
 ghost use Rattle.tcc_clocks.specs.{Clocks.IsOutside, declared.latest.TheConstants.WIDE};
@@ -8,7 +8,7 @@ ghost use Rattle.tcc_order.specs.private.News.{IsOfBlock, NoneBefore};
 use tcc_clocks::{SharedRows, WIDE};
 use tcc_txn::NoMemory;
 
-/// Whether a transaction is of a session of the block.
+/// Whether a transaction is in a session of the block.
 fn is_of_block(owners: &[u32], from: u32, c: u32) -> bool
     requires { c < length owners.now }
     ensures outside { result ≡ false → IsOutside owners.now from c }
@@ -18,7 +18,7 @@ fn is_of_block(owners: &[u32], from: u32, c: u32) -> bool
     c > 0 && owner >= from && ((owner - from) as usize) < WIDE
 }
 
-/// The first position of an order at which a transaction of the block stands, or the end of the order.
+/// The first position of an order that has a transaction of the block, or the end of the order.
 pub(crate) fn block_start(order: &[u32], owners: &[u32], from: u32) -> usize
     requires { All (λ c. c < length owners.now) order.now }
     ensures within { result ≤ length order.now }
@@ -33,7 +33,7 @@ pub(crate) fn block_start(order: &[u32], owners: &[u32], from: u32) -> usize
     order.len()
 }
 
-/// Gives zeros to those that stand before a position of an order.
+/// Gives zeros to the transactions before a position of an order.
 pub(crate) fn zeros_before(
     table: &mut SharedRows,
     order: &[u32],

@@ -1,8 +1,8 @@
-//! The links at `Causal` that are kept: of each transaction and each session the last one that has to stand before it, where
-//! it doesn't reach it. Only readings that may tell of one are looked at (`news`). One that an earlier transaction of the same
-//! session has too is kept there alone; and where the readers of both are alike, the later one isn't looked at. For N transactions
-//! of S sessions, R reads, of which P pairs of a source and a key have such readings, and W writers of a key that takes
-//! O(S (N + R + P log W)). A block of sessions none of which writes a key that is read from another transaction is passed over.
+//! The links at `Causal` that are kept: for each transaction and each session the last one that has to be before it, unless it
+//! reaches it. Only readings that may show one are examined (`news`). A link that an earlier transaction of the same session
+//! has too is kept there alone. If the readers of both are alike, the later one isn't examined. For N transactions of S
+//! sessions, R reads, of which P pairs of a source and a key have such readings, and W writers of a key that takes O(S (N + R
+//! + P log W)). A block of sessions is passed over if none of them writes a key that is read from another transaction.
 ghost use Rattle.std.specs.Prelude.{◌≡◌, ◌≢◌, ◌<◌, ◌≤◌, ◌+◌, ◌-◌, ◌*◌, ◌⊎◌, ◌↔◌, ℕ, length, slice_index, slice_index_or, All, Contains, IfOk, OnOk};
 ghost use Rattle.tcc_reads.specs.History.{IsBySession, count, owner};
 ghost use Rattle.tcc_graph.specs.{Relations.IsReadsPair, Levels.causally, Tables.row_of, Orders.IsNumbering};
@@ -27,10 +27,10 @@ use tcc_clocks::{
 use tcc_graph::LargeGraph;
 use tcc_txn::NoMemory;
 
-/// Up to so many writers of a key are looked at one by one.
+/// Up to this many writers of a key are visited one by one.
 const FEW: usize = 128;
 
-/// Raises the number of a session to that of a writer other than `a`, where the clock reaches it.
+/// Raises the number of a session to that of a writer other than `a`, if the clock reaches it.
 fn lift_writer(need: &mut [u32], owners: &[u32], from: u32, clock: &[u32], b: u32, a: u32)
     requires same { length need.old ≡ length clock.now }
     requires inside { b < length owners.now }
@@ -46,7 +46,7 @@ fn lift_writer(need: &mut [u32], owners: &[u32], from: u32, clock: &[u32], b: u3
     }
 }
 
-/// Raises the number of a session to each of these writers in turn, where the clock reaches it.
+/// Raises the number of a session to each of these writers in turn, if the clock reaches it.
 fn lift_each(need: &mut [u32], owners: &[u32], from: u32, clock: &[u32], writers: &[u32], a: u32)
     requires same { length need.old ≡ length clock.now }
     requires inside { All (λ b. b < length owners.now) writers.now }
@@ -58,7 +58,7 @@ fn lift_each(need: &mut [u32], owners: &[u32], from: u32, clock: &[u32], writers
     }
 }
 
-/// How many of these, which rise, are no greater than `top`.
+/// How many of these, which ascend, are at most `top`.
 fn count_up_to(numbers: &[u32], top: u32) -> usize
     requires { IsNonDecreasing numbers.now }
     ensures bound { result ≤ length numbers.now }
@@ -67,7 +67,7 @@ fn count_up_to(numbers: &[u32], top: u32) -> usize
     numbers.partition_point(|number| *number <= top)
 }
 
-/// The last of these, which rise, that is no greater than `top`, or 0.
+/// The last of these, which ascend, that is at most `top`, or 0.
 pub(crate) fn last_up_to(numbers: &[u32], top: u32) -> u32
     requires { IsNonDecreasing numbers.now }
     ensures { IsLastUpTo numbers.now top result }
@@ -79,7 +79,7 @@ pub(crate) fn last_up_to(numbers: &[u32], top: u32) -> u32
     numbers[count - 1]
 }
 
-/// The last of these, which rise, that is no greater than `top` and is not `a`, or 0.
+/// The last of these, which ascend, that is at most `top` and is not `a`, or 0.
 fn last_but(numbers: &[u32], top: u32, a: u32) -> u32
     requires { IsNonDecreasing numbers.now }
     ensures { IsLastBut numbers.now top a result }
@@ -135,8 +135,8 @@ fn lift_sessions(
     }
 }
 
-/// Raises the numbers of the sessions to those of writers, other than `a`, that the clock reaches: writer by writer where they
-/// are few, and else session by session.
+/// Raises the numbers of the sessions to those of writers, other than `a`, that the clock reaches. It goes writer by writer if
+/// they are few, and else session by session.
 fn lift_writers(need: &mut [u32], owners: &[u32], from: u32, clock: &[u32], writers: &[u32], a: u32)
     requires { CanLift owners.now from clock.now writers.now need.old }
     ensures same { length need.new ≡ length need.old }
@@ -149,7 +149,7 @@ fn lift_writers(need: &mut [u32], owners: &[u32], from: u32, clock: &[u32], writ
     }
 }
 
-/// Where the readings of one key end that begin at `start`.
+/// The end of the readings of one key that begin at `start`.
 fn end_of_key(readings: &[(u32, u32)], start: usize) -> usize
     requires { start < length readings.now }
     ensures past { start < result }
@@ -165,7 +165,7 @@ fn end_of_key(readings: &[(u32, u32)], start: usize) -> usize
     readings.len()
 }
 
-/// Leaves of each session only a number that is past what is known.
+/// Keeps for each session only a number that is past what is known.
 fn keep_past(top: &mut [u32], known: &[u32])
     requires { length top.old ≡ length known.now }
     ensures same { length top.new ≡ length top.old }
@@ -176,8 +176,8 @@ fn keep_past(top: &mut [u32], known: &[u32])
     }
 }
 
-/// Of each session of the block the greatest number that reaches one of the readers from `start` to below `end`, where it is past
-/// the clock of `a`. One with that clock is passed over.
+/// For each session of the block the greatest number that reaches one of the readers from `start` to below `end`, if it is
+/// past the clock of `a`. A reader with that clock is passed over.
 fn top_of(table: &SharedRows, readings: &[(u32, u32)], start: usize, end: usize, a: u32) -> Clock
     requires upto { start ≤ end }
     requires within { end ≤ length readings.now }
@@ -199,9 +199,9 @@ fn top_of(table: &SharedRows, readings: &[(u32, u32)], start: usize, end: usize,
     top
 }
 
-/// What has to stand before `a` by what was read from it: of each session of the block the last writer, past those that reach
-/// `a`, of a key that a transaction reads from `a`, where it reaches that reader. The readers of one key are taken together, so
-/// that its writers are gone through once.
+/// What has to be before `a` by what was read from it. For each session of the block it is the last writer that reaches a
+/// reader of its key from `a`, and that is past those that reach `a`. The readers of one key are handled together, so that its
+/// writers are visited once.
 fn needed(
     need: &mut [u32],
     graph: &LargeGraph,
@@ -248,7 +248,7 @@ pub(crate) fn before_in_session(owners: &[u32], c: u32) -> u32
     }
 }
 
-/// Begins the run anew where `a` is the first transaction of its session.
+/// Begins the run anew if `a` is the first transaction of its session.
 fn begin_session(run: &mut [u32], owners: &[u32], a: u32)
     requires { a < length owners.now }
     ensures same { length run.new ≡ length run.old }
@@ -260,7 +260,7 @@ fn begin_session(run: &mut [u32], owners: &[u32], a: u32)
     run.fill(0);
 }
 
-/// Whether these are readers of the same keys, and each known to have the row of the other at its index.
+/// Whether these are readers of the same keys, and at each index both are known to have one row.
 fn are_alike(table: &SharedRows, readings: &[(u32, u32)], others: &[(u32, u32)]) -> bool
     requires readers { All (λ reading. reading.0 < length table.now) readings.now }
     requires others { All (λ reading. reading.0 < length table.now) others.now }
@@ -296,8 +296,8 @@ fn is_like_before(owners: &[u32], table: &SharedRows, readings: &[Readings], a: 
     are_alike(table, from_a, from_before)
 }
 
-/// Whether more may have to stand before `a` than what its clock holds, and than what has to stand before the transaction before
-/// it in its session.
+/// Whether more may have to be before `a` than what its clock holds, and than what has to be before the transaction before it
+/// in its session.
 fn has_more(owners: &[u32], table: &SharedRows, readings: &[Readings], a: u32) -> bool
     requires below { a < length owners.now }
     requires long { length readings.now ≡ length owners.now }
@@ -310,8 +310,8 @@ fn has_more(owners: &[u32], table: &SharedRows, readings: &[Readings], a: u32) -
     !is_like_before(owners, table, readings, a)
 }
 
-/// Keeps the numbers that are greater than those of the clock and those of the run: what the run holds is kept already, into an
-/// earlier transaction of the session.
+/// Keeps the numbers that are greater than those of the clock and those of the run: what the run holds is kept already, into
+/// an earlier transaction of the session.
 fn keep(kept: &mut Row<u32>, need: &[u32], clock: &[u32], run: &mut [u32]) -> Result<(), NoMemory>
     requires long { length need.now ≡ length clock.now }
     requires runs { length run.old ≡ length need.now }
@@ -362,7 +362,7 @@ fn keep_block(
     Ok(())
 }
 
-/// By what the links from each block of sessions are found.
+/// What the search for the links from each block of sessions needs.
 #[derive(Clone, Copy)]
 pub(crate) struct Sweep<'a> {
     pub(crate) graph: &'a LargeGraph,
@@ -370,7 +370,7 @@ pub(crate) struct Sweep<'a> {
     pub(crate) owners: &'a [u32],
     /// An order in which causal pairs lead onward.
     pub(crate) order: &'a [u32],
-    /// What stands right before each transaction of the order.
+    /// What is right before each transaction of the order.
     pub(crate) steps: &'a Steps,
     /// Which blocks may have such links.
     pub(crate) needed: &'a [bool],
@@ -386,7 +386,7 @@ fn is_needed(needed: &[bool], block: usize) -> bool
     }
 }
 
-/// The links that are kept from the blocks of sessions from `first` to below `end`: no others are looked at.
+/// The links that are kept from the blocks of sessions from `first` to below `end`. No other blocks are examined.
 pub(crate) fn links_from(
     alloc: Global,
     sweep: &Sweep<'_>,

@@ -1,5 +1,5 @@
-//! Vector clocks (Fidge, Mattern) of all sessions along a commit order: of each transaction and each session the last place that
-//! reaches it. When a transaction's turn comes, those right before it have their rows, so its own is their maximum, with these
+//! Vector clocks (Fidge, Mattern) of all sessions along a commit order: for each transaction and each session the last place
+//! that reaches it. At a transaction's turn those right before it have their rows. So its own is their maximum, with these
 //! transactions themselves. For N transactions of S sessions and R reads that takes S (N + R) steps, and N S numbers.
 ghost use Rattle.std.specs.Prelude.{◌≡◌, ◌<◌, ℕ, max, length, slice_index, All, Contains, IfOk};
 ghost use Rattle.tcc_reads.specs.History.{count};
@@ -28,7 +28,7 @@ fn raise_one(row: &mut [u32], graph: &LargeGraph, p: u32)
     }
 }
 
-/// The last place in each session of these transactions and of what reaches them, by the rows of what does.
+/// The last place in each session of these transactions and of what reaches them, by their rows.
 fn clock_row(
     alloc: Global,
     graph: &LargeGraph,
@@ -48,8 +48,8 @@ fn clock_row(
     Ok(Row::new(row))
 }
 
-/// Of each transaction and each session, the greatest place of a transaction of the session from which it is reached, 0
-/// for none; by a commit order.
+/// For each transaction and each session, the greatest place of a transaction of the session from which it is reached, 0 for
+/// none. It goes along a commit order.
 pub fn clocks(alloc: Global, graph: &LargeGraph, order: &[u32]) -> Result<Vec<Row<u32>>, NoMemory>
     requires { IsCommitOrder (causally graph.now) order.now }
     ensures { IfOk result (λ rows. IsClocksOf graph.now rows.items) }

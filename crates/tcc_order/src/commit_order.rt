@@ -1,6 +1,7 @@
-//! The first commit order of a history at a level, or where it stops: the links that have to be kept (`causal_links`, by clocks
-//! along an order of the causal pairs, or `atomic_links`), and then Kahn's algorithm (`kahn`) over causal pairs and these links.
-//! For each other link there is a path of pairs and kept links, so that the order keeps it too. It costs what these three cost.
+//! The first commit order of a history at a level, or where it stops. It finds the links that have to be kept (`causal_links`,
+//! by clocks along an order of the causal pairs, or `atomic_links`). Then it runs Kahn's algorithm (`kahn`) over causal pairs
+//! and these links. For each other link there is a path of pairs and kept links, so that the order keeps it too. Its cost is
+//! the sum of the costs of these three.
 ghost use Rattle.std.specs.Prelude.{ℕ, IfOk, MatchOption};
 ghost use Rattle.tcc_reads.specs.History.{IsBySession, count};
 ghost use Rattle.tcc_graph.specs.{Orders.IsFirstOrder, Orders.IsNumbering, Routes.HasCycle, Walks.IsReached, Levels.causally, Levels.judged, declared.level.Level.Level};
@@ -21,7 +22,7 @@ use tcc_clocks::previous_of_each;
 use tcc_graph::{LargeGraph, Level};
 use tcc_txn::NoMemory;
 
-/// The links at a level that are kept, or where an order stops because causal pairs alone stand in a circle.
+/// The links at a level that are kept, or where an order stops because causal pairs alone make a cycle.
 #[derive(Drop)]
 enum Links {
     Kept(Vec<Row<u32>>),
@@ -58,7 +59,7 @@ fn links_kept(
     }
 }
 
-/// The links at `Causal` that are kept, as `links_by_clocks` finds them, by so many workers at most.
+/// The links at `Causal` that are kept, as `links_by_clocks` finds them, by at most this many workers.
 fn links_by_workers(
     rt: &(impl Threads + Sync),
     alloc: Global,
@@ -80,7 +81,7 @@ fn links_by_workers(
     }
 }
 
-/// The links at a level that are kept, by so many workers at most.
+/// The links at a level that are kept, by at most this many workers.
 fn links_kept_by(
     rt: &(impl Threads + Sync),
     alloc: Global,
@@ -99,7 +100,7 @@ fn links_kept_by(
     }
 }
 
-/// Where all transactions are placed by causal pairs and the links that are kept, or where an order stops.
+/// The order in which all transactions are placed by causal pairs and the kept links, or where it stops.
 fn placed_with(
     alloc: Global,
     graph: &LargeGraph,
@@ -122,8 +123,8 @@ fn placed_with(
     }
 }
 
-/// The first commit order of a history at a level, compared as lists of numbers; or where it stops: links of the level, and
-/// transactions of which each is held back by another, by causal pairs and these links.
+/// The first commit order of a history at a level, compared as lists of numbers; or where it stops. Then it returns links of
+/// the level, and transactions each of which is held back by another, by causal pairs and these links.
 pub fn place(alloc: Global, graph: &LargeGraph, level: Level) -> Result<Placement, NoMemory>
     ensures { IfOk result (IsPlacement (judged graph.now level)) }
 {
@@ -133,7 +134,7 @@ pub fn place(alloc: Global, graph: &LargeGraph, level: Level) -> Result<Placemen
     placed_with(alloc, graph, level, &parents, links)
 }
 
-/// What `place` answers, with its links at `Causal` worked out side by side, by so many workers at most: fewer where their tables
+/// What `place` returns, with its links at `Causal` found side by side, by at most this many workers: fewer if their tables
 /// would take too much. The order is the first one, whatever their number.
 pub fn place_by(
     rt: &(impl Threads + Sync),
@@ -150,7 +151,7 @@ pub fn place_by(
     placed_with(alloc, graph, level, &parents, links)
 }
 
-/// The first commit order of a history at a level, compared as lists of numbers; none exactly where there is a cycle.
+/// The first commit order of a history at a level, compared as lists of numbers; none exactly if there is a cycle.
 pub fn order(alloc: Global, graph: &LargeGraph, level: Level) -> Result<Option<Vec<u32>>, NoMemory>
     ensures { IfOk result (λ found. MatchOption found
         (HasCycle (judged graph.now level))
@@ -163,8 +164,8 @@ pub fn order(alloc: Global, graph: &LargeGraph, level: Level) -> Result<Option<V
     }
 }
 
-/// An order of all transactions in which causal pairs lead onward, or where it stops: transactions of which each is held back by
-/// another, by a causal pair.
+/// An order of all transactions in which causal pairs lead onward, or where it stops: transactions each of which is held back
+/// by another, by a causal pair.
 pub fn place_pairs(alloc: Global, graph: &LargeGraph) -> Result<PairPlacement, NoMemory>
     ensures { IfOk result (IsPairPlacement graph.now) }
 {
@@ -177,7 +178,7 @@ pub fn place_pairs(alloc: Global, graph: &LargeGraph) -> Result<PairPlacement, N
     }
 }
 
-/// An order of all transactions in which causal pairs lead onward; none exactly where a transaction reaches itself by them.
+/// An order of all transactions in which causal pairs lead onward; none exactly if a transaction reaches itself by them.
 pub fn order_of_pairs(alloc: Global, graph: &LargeGraph) -> Result<Option<Vec<u32>>, NoMemory>
     ensures { IfOk result (λ found. MatchOption found
         ((a : ℕ) × IsReached graph.now a a)

@@ -1,7 +1,8 @@
-//! Kahn's algorithm (Kahn, Topological sorting of large networks, CACM 5, 1962), with the free ones in a heap: the first order of
-//! the transactions in which each stands behind all that holds it back. Each that was not placed is free, is to be looked at, or
-//! waits for one that holds it back, and is looked at again once that was placed; it then goes on behind that one, so that each
-//! pair and link is looked at twice at most. With N transactions and E pairs and links that takes O(E + N log N).
+//! Kahn's algorithm (Kahn, Topological sorting of large networks, CACM 5, 1962), with the free transactions in a heap. It
+//! gives the first order in which each transaction comes after all that holds it back. Each that was not placed is free, is to
+//! be examined, or waits for one that holds it back. A waiting one is examined again once that one was placed. It then goes on
+//! after it, so that each pair and link is examined twice at most. With N transactions and E pairs and links that takes O(E +
+//! N log N).
 ghost use Rattle.std.specs.Prelude.{◌≡◌, ◌<◌, ◌≤◌, ◌+◌, ◌⊎◌, ◌↔◌, ◌++◌, [], ℕ, true, false, length, slice_index, slice_index_or, Contains, IfOk, IfNone, IfSome, OnOk, MatchOption};
 ghost use Rattle.tcc_txn.specs.declared.limits.TheConstants.{LARGE_COUNT};
 ghost use Rattle.tcc_reads.specs.History.{count};
@@ -20,15 +21,15 @@ use tcc_bits::{Row, is_marked, mark, words_for};
 use tcc_graph::LargeGraph;
 use tcc_txn::NoMemory;
 
-/// The order of all transactions; or, where none can be placed next, marks of those that were.
+/// The order of all transactions; or, if none can be placed next, marks of those that were placed.
 #[derive(Drop)]
 pub(crate) enum Placed {
     Order(Vec<u32>),
     Stuck(Vec<u64>),
 }
 
-/// Transactions that are to be looked at, those that are free, those that wait for one that holds them back, and how far each
-/// was looked at: behind how many of its sources and of the links that are kept into it it goes on.
+/// Transactions that are to be examined, those that are free, and those that wait for one that holds them back. `seen` says
+/// for each after how many of its sources and kept links its examination goes on.
 #[derive(Drop)]
 struct Queue {
     woken: Vec<u32>,
@@ -37,7 +38,7 @@ struct Queue {
     seen: Vec<usize>,
 }
 
-/// Of the transactions that are read from, from this index on, the index of one that was not placed.
+/// The index, from this one on, of a transaction that is read from and was not placed.
 fn missing_source(reads: &[(u32, u32)], placed: &[u64], from: usize) -> Option<usize>
     ensures { MatchOption result
         ((k : ℕ) → from ≤ k → k < length reads.now → is_marked placed.now (slice_index_or reads.now k (0, 0)).1 ≡ true)
@@ -51,7 +52,7 @@ fn missing_source(reads: &[(u32, u32)], placed: &[u64], from: usize) -> Option<u
     None
 }
 
-/// Of these numbers, from this index on, the index of one that was not placed.
+/// The index, from this one on, of a number that was not placed.
 fn missing_of(numbers: &[u32], placed: &[u64], from: usize) -> Option<usize>
     ensures { MatchOption result
         ((k : ℕ) → from ≤ k → k < length numbers.now → is_marked placed.now (slice_index numbers.now k) ≡ true)
@@ -65,7 +66,7 @@ fn missing_of(numbers: &[u32], placed: &[u64], from: usize) -> Option<usize>
     None
 }
 
-/// The parent of a transaction, where it was not placed.
+/// The parent of a transaction, if it was not placed.
 fn missing_parent(parents: &[u32], placed: &[u64], x: u32) -> Option<u32>
     requires { x < length parents.now }
     ensures { MatchOption result
@@ -80,19 +81,19 @@ fn missing_parent(parents: &[u32], placed: &[u64], x: u32) -> Option<u32>
     }
 }
 
-/// What each transaction stands behind: its parent, its sources, and the links that are kept into it.
+/// What each transaction has to come after: its parent, its sources, and the links that are kept into it.
 #[derive(Clone, Copy)]
 struct Precedence<'a> {
     graph: &'a LargeGraph,
-    /// Of each transaction the one before it in its session.
+    /// For each transaction the one before it in its session.
     parents: &'a [u32],
-    /// Of each transaction the sources of the links that are kept into it.
+    /// For each transaction the sources of the links that are kept into it.
     kept: &'a [Row<u32>],
 }
 
 impl Precedence<'_> {
-    /// Of the sources of a transaction and of the links that are kept into it, behind so many, one that was not placed, and how
-    /// many stand before it.
+    /// One of the sources of a transaction and of the links kept into it that was not placed, after the first `seen` of them,
+    /// and how many come before it.
     fn missing_behind(&self, placed: &[u64], x: u32, seen: usize) -> Option<(u32, usize)>
         requires known { IsKnown self.now }
         requires below { x < count self.now.graph.now }
@@ -109,8 +110,8 @@ impl Precedence<'_> {
         Some((row[index], reads.len().saturating_add(index)))
     }
 
-    /// Of what holds a transaction back one that was not placed, and how far it was looked for; first behind so many of its
-    /// sources and links.
+    /// One that holds a transaction back and was not placed, and how far the search for it went. It tries the parent, then the
+    /// sources and links after the first `seen` of them, and then all of these.
     fn missing(&self, placed: &[u64], x: u32, seen: usize) -> Option<(u32, usize)>
         requires known { IsKnown self.now }
         requires below { x < count self.now.graph.now }
@@ -129,7 +130,7 @@ impl Precedence<'_> {
         self.missing_behind(placed, x, 0)
     }
 
-    /// Looks at each of those that were woken: it is free, or waits from now on for one that holds it back.
+    /// Examines each of those that were woken: it is free, or waits from now on for one that holds it back.
     fn look_at_woken(&self, placed: &[u64], queue: &mut Queue) -> Result<(), NoMemory>
         requires known { IsKnown self.now }
         requires seen { length queue.old.seen.items ≡ count self.now.graph.now }
@@ -231,8 +232,8 @@ fn first_queue(alloc: Global, parents: &[u32], count: u32) -> Result<Queue, NoMe
     })
 }
 
-/// The first order of the transactions in which each stands behind its parents and behind the sources of links that are kept;
-/// or, where these stand in a circle, which were placed until none could be placed next.
+/// The first order of the transactions in which each comes after its parents and after the sources of kept links. If these
+/// make a cycle, it returns which were placed until none could be placed next.
 pub(crate) fn first_placing(
     alloc: Global,
     graph: &LargeGraph,

@@ -1,5 +1,5 @@
-//! The first commit order of a history at a level, for histories of any size, by clocks of 64 sessions at a time and with no
-//! table of two transactions each; and the law that there is one exactly where there is no cycle.
+//! The first commit order of a history at a level, for histories of any size. It uses clocks of 64 sessions at a time, and no
+//! table of pairs of transactions. A law says that there is such an order exactly if there is no cycle.
 #![tactic(auto)]
 
 mod atomic_links;

@@ -1,9 +1,10 @@
-//! Which readings may tell more of the transaction that they read from than its clock does: the last writers of each key, by session,
-//! are noted along an order of the causal pairs (a sweep), and a reader is asked at its turn. Who is new is asked before who is known:
-//! where no writer noted so far is past the clock of the source, the reading is done, by one comparison of 64 numbers; or of one
-//! alone, the head, where all writers noted so far reach it, as they mostly do. For N
-//! transactions, R reads and W writes that takes N + 64 R + W steps a block of 64 sessions. A key has a row of 64 numbers; past
-//! `SLOTS` keys several share one, which then holds more than it must: some readings are looked at in vain.
+//! Which readings may tell more of the transaction that they read from than its clock does. The last writers of each key, by
+//! session, are noted along an order of the causal pairs (a sweep), and a reader is examined at its turn. The test for new
+//! transactions comes first: if no writer noted so far is past the clock of the source, the reading is done. That takes one
+//! comparison of 64 numbers. If all writers noted so far reach one transaction, the head, as is usual, it takes a comparison
+//! with the head alone. For N transactions, R reads and W writes it takes N + 64 R + W steps a block of 64 sessions. A key has
+//! a row of 64 numbers. Above `SLOTS` keys several share one, which then holds more than it must: some readings are examined
+//! in vain.
 ghost use Rattle.std.specs.Prelude.{◌≡◌, ◌<◌, ◌≤◌, false, true, ℕ, List, min, length, replicate, slice_index, All, IfOk, OnOk};
 ghost use Rattle.std.specs.List.Sorted.{IsNonDecreasing};
 ghost use Rattle.tcc_reads.specs.History.{IsBySession, count};
@@ -26,7 +27,7 @@ use tcc_txn::NoMemory;
 /// How many rows of last writers there are at most: 32 MiB.
 const SLOTS: usize = 131_072;
 
-/// Raises the number of a transaction's session to its own, where the session is of the block.
+/// Raises the number of a session to that of its transaction `a`, if the session is in the block.
 fn raise_own(row: &mut [u32], owners: &[u32], from: u32, a: u32)
     requires inside { a < length owners.now }
     ensures same { length row.new ≡ length row.old }
@@ -41,8 +42,8 @@ fn raise_own(row: &mut [u32], owners: &[u32], from: u32, a: u32)
     }
 }
 
-/// Of each session of the block the greatest number that reaches `a`, or its own; and a number at least that is less than those
-/// of the block.
+/// For each session of the block the greatest number that reaches `a`, or `a` itself in its own session. Each is at least the
+/// floor, which is less than all numbers of the block.
 fn known_by(table: &SharedRows, owners: &[u32], from: u32, floor: u32, a: u32) -> Clock
     requires inside { a < length owners.now }
     requires long { length table.now ≡ length owners.now }
@@ -56,7 +57,7 @@ fn known_by(table: &SharedRows, owners: &[u32], from: u32, floor: u32, a: u32) -
     known
 }
 
-/// Whether a number that was noted, and that the reader's clock holds, is past what is known.
+/// Whether some number that was noted, and that the reader's clock holds, is past what is known.
 fn is_past(last: &[u32], reader: &[u32], known: &[u32]) -> bool
     requires readers { length reader.now ≡ length last.now }
     requires known { length known.now ≡ length last.now }
@@ -69,7 +70,7 @@ fn is_past(last: &[u32], reader: &[u32], known: &[u32]) -> bool
     any
 }
 
-/// No writers yet: a row for each key, or for several.
+/// No writers yet: a row for each key, or for several keys.
 pub(crate) fn no_writers(alloc: Global, graph: &LargeGraph) -> Result<Vec<Clock>, AllocError>
     ensures { IfOk result (λ last. 0 < length last.items) }
 {
@@ -100,7 +101,7 @@ fn is_held(owners: &[u32], from: u32, clock: &[u32], z: u32) -> bool
     column < clock.len() && z <= clock[column]
 }
 
-/// Whether nobody of the block is `z`, or it is `a`, or the clock holds it.
+/// Whether `z` is at most the floor, so no transaction of the block, or is `a`, or is held by the clock.
 fn is_known(owners: &[u32], from: u32, floor: u32, clock: &[u32], a: u32, z: u32) -> bool
     ensures { result ≡ true → IsKnown owners.now from floor clock.now a z }
 {
@@ -110,7 +111,7 @@ fn is_known(owners: &[u32], from: u32, floor: u32, clock: &[u32], a: u32, z: u32
     is_held(owners, from, clock, z)
 }
 
-/// Whether `c`, as it reads the key at an index from `a`, may tell that more stands before `a` than its clock holds.
+/// Whether `c`, as it reads the key at an index from `a`, may tell that more has to be before `a` than its clock holds.
 fn may_tell(
     last: &[Clock],
     heads: &[u32],
@@ -169,7 +170,8 @@ fn are_sources_same(table: &SharedRows, found: &[u32], c: u32) -> bool
     true
 }
 
-/// Adds what a transaction reads where it may tell more of that which it reads from: nothing where these have its row.
+/// Adds the reads of a transaction that may tell more of what it reads from: none if the transactions that it reads from have
+/// its row.
 fn add_readings(
     rows: &mut [Readings],
     last: &[Clock],
@@ -216,7 +218,7 @@ fn add_readings(
     Ok(())
 }
 
-/// The head of a row after a transaction was noted there: itself, where all that were noted reach it, or else none.
+/// The head of a row after a transaction was noted there: this transaction, if all that were noted reach it, or else none.
 fn head_after(
     row: &[u32],
     head: u32,
@@ -296,7 +298,7 @@ fn raise_keys(
     }
 }
 
-/// Notes a transaction as the last writer of its keys, where its session is of the block.
+/// Notes a transaction as the last writer of its keys, if its session is in the block.
 fn note_writer(
     last: &mut [Clock],
     heads: &mut [u32],
@@ -342,8 +344,9 @@ fn note_writer(
     }
 }
 
-/// Works out the clocks along an order in which causal pairs lead onward, from the position on at which the block begins, and adds
-/// the readings that may tell more of their source than its clock does. What was noted before in other blocks may stand there still.
+/// Computes the clocks along an order in which causal pairs lead onward, from the position on at which the block begins. It
+/// adds the readings that may tell more of their source than its clock does. What was noted before in other blocks may still
+/// be there.
 fn add_along(
     rows: &mut [Readings],
     last: &mut [Clock],
@@ -388,8 +391,8 @@ fn add_along(
     Ok(())
 }
 
-/// Finds the clocks of a block of sessions, and the readings that may tell more of their source than its clock does, those of one
-/// key together; by an order in which causal pairs lead onward.
+/// Finds the clocks of a block of sessions, and the readings that may tell more of their source than its clock does, grouped
+/// by key. It goes along an order in which causal pairs lead onward.
 pub(crate) fn find_news(
     rows: &mut [Readings],
     last: &mut [Clock],

@@ -1,4 +1,4 @@
-//! What comes of looking for a commit order.
+//! The result of the search for a commit order.
 use tcc_bits::Row;
 
 /// The first commit order, or where it stops.
@@ -10,8 +10,9 @@ pub enum Placement {
     Stuck(Stuck),
 }
 
-/// Where there is no commit order: of each transaction those that were found to have to stand before it by a link; and marks of
-/// the transactions that were placed until none could be placed next. Each that is left stands behind one that is left.
+/// If there is no commit order: for each transaction those that were found to have to be before it by a link, and marks of the
+/// transactions that were placed. Placing went on until none could be placed next. Each transaction that is left has to come
+/// after one that is left.
 #[derive(Drop)]
 pub struct Stuck {
     pub kept: Vec<Row<u32>>,
@@ -23,7 +24,7 @@ pub struct Stuck {
 pub enum PairPlacement {
     /// The numbers of all transactions, in an order in which causal pairs lead onward.
     Order(Vec<u32>),
-    /// Marks of the transactions that were placed until none could be placed next. Each that is left stands right behind one that
-    /// is left, in its session or as it reads from it.
+    /// Marks of the transactions that were placed until none could be placed next. Each that is left comes right after one
+    /// that is left, in its session or as it reads from it.
     Stuck(Vec<u64>),
 }

@@ -1,4 +1,4 @@
-//! Numbers of which the least is taken out next: a binary heap, log N steps for each that is put in or taken out of N.
+//! Numbers of which the least is taken out next: a binary heap, with log N steps for each that is added to or taken out of N.
 ghost use Rattle.std.specs.Prelude.{◌≡◌, ◌⊎◌, ◌↔◌, ℕ, Contains, IfOk, OnOk, MatchOption};
 ghost use Rattle.tcc_order.specs.private.Queued.{IsPopped};
 
@@ -26,7 +26,7 @@ impl Model for Ready {
 }
 
 impl Ready {
-    /// None.
+    /// No numbers.
     pub(crate) fn new(alloc: Global) -> Ready
         ensures { (x : ℕ) → Contains result x → ⊥ }
     {
@@ -34,7 +34,7 @@ impl Ready {
         Ready { heap }
     }
 
-    /// One number more.
+    /// One more number.
     pub(crate) fn push(&mut self, number: u32) -> Result<(), AllocError>
         ensures { OnOk result ((x : ℕ) → Contains self.new x ↔ (Contains self.old x ⊎ (x ≡ number))) }
     {

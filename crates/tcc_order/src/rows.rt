@@ -1,4 +1,4 @@
-//! Tables of rows in which nothing stands.
+//! Tables of empty rows.
 ghost use Rattle.std.specs.Prelude.{◌≡◌, length, IfOk};
 ghost use Rattle.tcc_order.specs.private.CausalLinks.{HasNone};
 
@@ -6,10 +6,10 @@ use std::alloc::Global;
 use tcc_bits::Row;
 use tcc_txn::NoMemory;
 
-/// Rows, or that there is no room for them.
+/// Rows, or the error that memory is out.
 pub(crate) type MadeRows<T> = Result<Vec<Row<T>>, NoMemory>;
 
-/// So many rows in which nothing stands.
+/// This many empty rows.
 pub(crate) fn empty_rows<T: Copy>(alloc: Global, count: u32) -> MadeRows<T>
     ensures long { IfOk result (λ rows. length rows.items ≡ count) }
     ensures none { IfOk result (λ rows. HasNone rows.items) }

@@ -1,7 +1,7 @@
-//! The links at `Causal` that are kept, worked out side by side: the blocks of sessions in shares, a thread for each. No block sees
-//! another. What the shares have is joined in the order of the blocks, as one thread adds it. Each share has tables of its own: a
-//! row of 64 numbers for each transaction at most, and 32 MiB for keys. So there are no more shares than fit into `ROWS_AT_ONCE`
-//! rows.
+//! The links at `Causal` that are kept, found side by side: the blocks of sessions are divided into shares, a thread for each.
+//! No block depends on another. The results of the shares are joined in the order of the blocks, as one thread would add them.
+//! Each share has tables of its own: at most a row of 64 numbers for each transaction, and 32 MiB for keys. So there are at
+//! most as many shares as fit into `ROWS_AT_ONCE` rows.
 ghost use Rattle.std.specs.Prelude.{◌≡◌, ◌<◌, ◌≤◌, ◌+◌, ◌*◌, ◌⊎◌, ◌++◌, ℕ, length, IfOk, OnOk};
 ghost use Rattle.tcc_reads.specs.History.{count};
 ghost use Rattle.tcc_graph.specs.{Levels.causally, Tables.row_of, Orders.IsNumbering};
@@ -20,19 +20,19 @@ use tcc_clocks::{WIDE, needed_blocks, owners, steps_along};
 use tcc_graph::LargeGraph;
 use tcc_txn::NoMemory;
 
-/// How many rows the tables of all shares have at most, where there is more than one share: 1 GiB.
+/// How many rows the tables of all shares have at most, if there is more than one share: 1 GiB.
 const ROWS_AT_ONCE: u32 = 4_194_304;
 
 /// The blocks of sessions in shares.
 #[derive(Clone, Copy)]
 pub(crate) struct Shares {
     pub(crate) count: u32,
-    /// How many blocks each share has, the last ones fewer.
+    /// How many blocks each share has; the last ones have fewer.
     pub(crate) size: usize,
     pub(crate) blocks: usize,
 }
 
-/// In how many shares so many blocks are worked out: one for each worker, where there are as many blocks, and memory for so many.
+/// The number of shares for this many blocks: one for each worker, as far as there are blocks, and memory for their tables.
 fn shares_for(workers: u32, blocks: u32, count: u32) -> u32
     ensures some { 0 < result }
     ensures few { (result ≡ 1) ⊎ ((result ≤ workers) × (result ≤ blocks)) }
@@ -43,7 +43,7 @@ fn shares_for(workers: u32, blocks: u32, count: u32) -> u32
 }
 
 impl Shares {
-    /// Where a share begins: at this block.
+    /// The block at which a share begins.
     fn start(&self, share: usize) -> usize
         ensures { result ≡ start_of self.now share }
     {
@@ -78,7 +78,7 @@ fn all_shares(
         .collect::<Result<Vec<Vec<Row<u32>>>, NoMemory>>(rt, alloc)?
 }
 
-/// Puts these numbers behind those of a row.
+/// Puts these numbers after those of a row.
 fn extend(row: &mut Row<u32>, numbers: &[u32]) -> Result<(), NoMemory>
     ensures { OnOk result (row.new ≡ row.old ++ numbers.now) }
 {
@@ -88,7 +88,7 @@ fn extend(row: &mut Row<u32>, numbers: &[u32]) -> Result<(), NoMemory>
     Ok(())
 }
 
-/// Puts the links of a share behind those of the shares before it.
+/// Puts the links of a share after those of the shares before it.
 fn join(kept: &mut [Row<u32>], part: &[Row<u32>]) -> Result<(), NoMemory>
     requires { length part.now ≡ length kept.old }
     ensures same { length kept.new ≡ length kept.old }
@@ -117,7 +117,7 @@ fn joined(
     Ok(kept)
 }
 
-/// The links at `Causal` that are kept, by an order in which causal pairs lead onward and by so many workers at most.
+/// The links at `Causal` that are kept, by an order in which causal pairs lead onward and by at most this many workers.
 pub(crate) fn causal_links_by(
     rt: &(impl Threads + Sync),
     alloc: Global,

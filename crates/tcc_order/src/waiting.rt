@@ -1,5 +1,5 @@
-//! Who waits for whom. Of each number those that wait for it are a chain, and the chains of all stand in one list, where each link
-//! leads to an earlier one: a number that waits takes one link, and no list of its own.
+//! Which numbers wait for which. For each number those that wait for it are a chain. The chains of all are in one list, where
+//! each link leads to an earlier one. So a number that waits takes one link, and no list of its own.
 ghost use Rattle.std.specs.Prelude.{◌≡◌, ◌<◌, ◌∷◌, ◌⊎◌, ◌↔◌, ℕ, length, set, Contains, IfOk, OnOk};
 ghost use Rattle.tcc_graph.specs.Tables.{row_of};
 ghost use Rattle.tcc_order.specs.private.CausalLinks.{HasNone};
@@ -8,12 +8,12 @@ use std::alloc::{AllocError, Global};
 use std::marker::Model;
 use tcc_txn::NoMemory;
 
-/// Of each number those that wait for it, which contracts see as a list of lists.
+/// For each number those that wait for it, which contracts see as a list of lists.
 #[derive(Drop)]
 pub(crate) struct Waiting {
-    /// Where the chain of each number begins: one past the index of a link, or 0 where nobody waits.
+    /// Where the chain of each number begins: one past the index of a link, or 0 if nothing waits for it.
     starts: Vec<u32>,
-    /// Who waits, and where the chain goes on.
+    /// A number that waits, and where its chain goes on.
     links: Vec<(u32, u32)>,
 }
 
@@ -29,7 +29,7 @@ impl Model for Waiting {
 }
 
 impl Waiting {
-    /// Nobody waits for any of so many numbers.
+    /// Nothing waits for any of this many numbers.
     pub(crate) fn new(alloc: Global, count: u32) -> Result<Waiting, AllocError>
         ensures long { IfOk result (λ waiting. length waiting ≡ count) }
         ensures none { IfOk result (λ waiting. HasNone waiting) }

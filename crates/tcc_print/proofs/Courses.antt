@@ -14,9 +14,9 @@ use Rattle.tcc_rows.specs.Failing.{items_before_within}
 use Rattle.tcc_rows.specs.Items.{finished_in}
 use Rattle.tcc_rows.specs.Lines.{Record}
 use Rattle.tcc_rows.specs.Reached.{IsWithin}
-use Rattle.tcc_rows.specs.Recordings.{FailsBehind, IsRecording, TakesMoment, after_items}
-use Rattle.tcc_rows.specs.declared.recording.Moment.{Moment}
-use Rattle.tcc_rows.specs.declared.recording.Moment.TheVariants as moment
+use Rattle.tcc_rows.specs.Recordings.{FailsBehind, IsRecording, TakesCheckpoint, after_items}
+use Rattle.tcc_rows.specs.declared.recording.Checkpoint.{Checkpoint}
+use Rattle.tcc_rows.specs.declared.recording.Checkpoint.TheVariants as checkpoint
 use Rattle.tcc_rows.specs.declared.recording.RecordingWithin.{RecordingWithin}
 use Rattle.tcc_rows.specs.declared.rows.Item.{Item}
 use Rattle.tcc_rows.specs.declared.rows.Item.TheVariants as item
@@ -25,43 +25,43 @@ use Rattle.tcc_rows.specs.declared.fault.RowFaultKind.TheVariants as kind
 use Rattle.tcc_rows.proofs.FailingFacts.{first-items}
 use Rattle.tcc_txn.specs.Finished.{transaction_count}
 use Rattle.tcc_txn.specs.Snapshots.{Sessions}
-use Rattle.tcc_print.specs.Courses.{AreSaid, Contents, Gains, IsWholeCourse, MayEnd, Said, halt_said, texts}
-use Rattle.tcc_print.specs.Halts.{by_row, is_memory}
-use Rattle.tcc_print.specs.Moments.{at_end, is_due_after, sealed_in}
-use Rattle.tcc_print.specs.Printed.{CutsOff, EndsIn, Prints, PrintsOrMemory, halted, memory_line}
-use Rattle.tcc_print.specs.Statuses.{halt_status}
-use Rattle.tcc_print.specs.declared.halt.Halt.{Halt}
-use Rattle.tcc_print.specs.declared.halt.Halt.TheVariants as halt
-use Rattle.tcc_print.specs.declared.last.Last.{Last}
+use Rattle.tcc_print.specs.Courses.{AreSaid, Contents, Gains, IsWholeCourse, MayEnd, Said, run_error_said, texts}
+use Rattle.tcc_print.specs.RunErrors.{by_row, is_memory}
+use Rattle.tcc_print.specs.Checkpoints.{at_end, is_due_after, sealed_in}
+use Rattle.tcc_print.specs.Printed.{CutsOff, EndsIn, Prints, PrintsOrMemory, printed_error, memory_line}
+use Rattle.tcc_print.specs.Statuses.{run_error_status}
+use Rattle.tcc_print.specs.declared.run_error.RunError.{RunError}
+use Rattle.tcc_print.specs.declared.run_error.RunError.TheVariants as error
+use Rattle.tcc_print.specs.declared.previous.PreviousAnswer.{PreviousAnswer}
 use Rattle.tcc_print.specs.declared.status.Status.TheVariants.{Memory}
 use Rattle.tcc_print.specs.Saying.{Course, EndsAgain, EndsAnswering, EndsSaying, IsFor, IsStill, IsTold}
 use Rattle.tcc_print.specs.private.Courses.{AllAnswered, EndsEarly}
 use Rattle.tcc_print.specs.Saying.{Repeats, SaysAgain, SaysLast}
 use Rattle.tcc_print.proofs.LastSaid.{last_snapshot}
-use Rattle.tcc_print.proofs.Moments.{AreSaid-push, all-fault, all-items, at_end-due, at_end-none, due-passed, due-seal}
-use Rattle.tcc_print.proofs.Moments.{finished-seal, first-taken, last-push, part-of, same-passed, sealed-passed, sealed-seal, still_due}
+use Rattle.tcc_print.proofs.Checkpoints.{AreSaid-push, all-fault, all-items, at_end-due, at_end-none, due-passed, due-seal}
+use Rattle.tcc_print.proofs.Checkpoints.{finished-seal, first-taken, last-push, part-of, same-passed, sealed-passed, sealed-seal, still_due}
 
 texts-push : (said : List Said) (one : Said) → texts (said ++ one ∷ []) ≡ texts said ++ one.text
 texts-push said one = flat_map-append (λ (one : Said). one.text) said (one ∷ []) ∙ ap (λ t. texts said ++ t) (append-nil one.text)
 
--- a part of a text after others that went out
+-- a part of a text after others that were written
 Appends-part : (a b c : Option (List ℕ)) (x y : List ℕ) (n : ℕ) → Appends a b x → Appends b c (take n y) → Appends a c (take (length x + n) (x ++ y))
 Appends-part a b c x y n out part = subst (λ t. Appends a c t) (sym (take-append-add x y n)) (Appends-trans a b c x (take n y) out part)
 
 module _ {O : Type 0} (course : Course O) (text : List ℕ) (before : Option (List ℕ)) where
   -- the run is ended after some answers
-  ended : (n : ℕ) (why : Halt) (said : List Said) (now after : Option (List ℕ)) (code : ℕ) → MayEnd course.limits text n why
+  ended : (n : ℕ) (why : RunError) (said : List Said) (now after : Option (List ℕ)) (code : ℕ) → MayEnd course.limits text n why
       → AreSaid course.is_said (sealed_in (take n (answers_within course.limits text).items)) said → Appends before now (texts said)
-      → Prints now after (halted course.options.json why) (halt_status why) code → EndsEarly course text before after code
+      → Prints now after (printed_error course.options.json why) (run_error_status why) code → EndsEarly course text before after code
   ended n why said now after code may answers out prints =
-      let all = texts-push said (halt_said course.options why) in (
-        said ++ halt_said course.options why ∷ [],
-        halt_said course.options why,
+      let all = texts-push said (run_error_said course.options why) in (
+        said ++ run_error_said course.options why ∷ [],
+        run_error_said course.options why,
         inr (said, (n, why, may, answers, refl)),
-        last-push None said (halt_said course.options why),
+        last-push None said (run_error_said course.options why),
         elim prints [
           | inl whole ↦ inl (
-            subst (λ t. Appends before after t) (sym all) (Appends-trans before now after (texts said) (halted course.options.json why) out whole.0),
+            subst (λ t. Appends before after t) (sym all) (Appends-trans before now after (texts said) (printed_error course.options.json why) out whole.0),
             refl,
             whole.1,
           )
@@ -69,29 +69,29 @@ module _ {O : Type 0} (course : Course O) (text : List ℕ) (before : Option (Li
             (
               length (texts said) + part.0.0,
               subst (λ t. Appends before after (take (length (texts said) + part.0.0) t)) (sym all)
-                  (Appends-part before now after (texts said) (halted course.options.json why) part.0.0 out part.0.1),
+                  (Appends-part before now after (texts said) (printed_error course.options.json why) part.0.0 out part.0.1),
             ),
             part.1,
           )
         ],
       )
 
-  ended_or : (n : ℕ) (why : Halt) (said : List Said) (now after : Option (List ℕ)) (code : ℕ) → MayEnd course.limits text n why
+  ended_or : (n : ℕ) (why : RunError) (said : List Said) (now after : Option (List ℕ)) (code : ℕ) → MayEnd course.limits text n why
       → AreSaid course.is_said (sealed_in (take n (answers_within course.limits text).items)) said → Appends before now (texts said)
-      → PrintsOrMemory course.options.json now after (halted course.options.json why) (halt_status why) code → EndsEarly course text before after code
+      → PrintsOrMemory course.options.json now after (printed_error course.options.json why) (run_error_status why) code → EndsEarly course text before after code
   ended_or n why said now after code may answers out (inl prints) = ended n why said now after code may answers out prints
-  ended_or n why said now after code may answers out (inr memory) = ended n halt.NoMemory said now after code tt answers out memory
+  ended_or n why said now after code may answers out (inr memory) = ended n error.NoMemory said now after code tt answers out memory
 
   -- a writer fails in an answer, after which memory might have been wanting
   cut : (n : ℕ) (said : List Said) (one : Said) (now after : Option (List ℕ)) (code : ℕ)
       → AreSaid course.is_said (sealed_in (take n (answers_within course.limits text).items)) (said ++ one ∷ []) → Appends before now (texts said)
       → CutsOff now after one.text code → EndsEarly course text before after code
   cut n said one now after code answers out cuts =
-      let memory = halt_said course.options halt.NoMemory in
+      let memory = run_error_said course.options error.NoMemory in
       let part = part-of cuts.0.0 one.text memory.text in (
         (said ++ one ∷ []) ++ memory ∷ [],
         memory,
-        inr (said ++ one ∷ [], (n, halt.NoMemory, tt, answers, refl)),
+        inr (said ++ one ∷ [], (n, error.NoMemory, tt, answers, refl)),
         last-push None (said ++ one ∷ []) memory,
         inr (
           (
@@ -107,9 +107,9 @@ module _ {O : Type 0} (course : Course O) (text : List ℕ) (before : Option (Li
         ),
       )
 
--- what is known of what was said last: nothing was said, and an answer is due; or nothing is due, and it is that of all that was
+-- what is known about what was said last: nothing was said, and an answer is due; or nothing is due, and it was said of all that was
 -- finished
-abbrev pub IsLast : {O : Type 0} → Course O → Option (Last O) → List Item → List Said → Type 0
+abbrev pub IsLast : {O : Type 0} → Course O → Option (PreviousAnswer O) → List Item → List Said → Type 0
 IsLast course None taken said = (is_due_after true taken ≡ true) × (said ≡ [])
 IsLast course (Some last) taken said =
     (is_due_after true taken ≡ false) × IsFor course (finished_in taken) last
@@ -121,7 +121,7 @@ inside x y e = cc e
 nothing : {X : Type 0} (x : X) → None ≡ Some x → ⊥
 nothing x e = cc e
 
--- where nothing is due, the last seal was behind all that was finished
+-- where nothing is due, the last seal came after all that was finished
 last-sealed : (taken : List Item) → is_due_after true taken ≡ false → last_or None (sealed_in taken) ≡ Some (finished_in taken)
 last-sealed taken none =
     let (front, is) = last_snapshot taken in
@@ -129,19 +129,19 @@ last-sealed taken none =
     ∙ last-push None front (finished_in taken)
 
 -- what was said for another number of transactions is not to be said again
-pub nothing_again : {O : Type 0} (course : Course O) (s : Sessions) (last : Option (Last O)) (said : Said)
+pub nothing_again : {O : Type 0} (course : Course O) (s : Sessions) (last : Option (PreviousAnswer O)) (said : Said)
     → IfSome last (λ last. last.transactions ≢ transaction_count s) → Repeats course s last said
 nothing_again course s None said other = tt
 nothing_again course s (Some last) said other = λ same. absurd (other same)
 
--- a run that ends by a number ends by that of the call that ended it
+-- a run that a call ended has the status that the call returned
 pub ended_by : {A : Type 0} (P : A → Type 0) (Q : ℕ → Type 0) (r : Result A ℕ) (why : ℕ) → IsErrAnd r (λ code. code ≡ why) → Q why → MatchResult r P Q
 ended_by P Q (Ok a) why is q = absurd is
 ended_by P Q (Err code) why is q = subst Q (sym is) q
 
--- what was said last was said for so many transactions; or it wasn't, and an answer is due
-pub said_or_due : {O : Type 0} (last : Option (Last O)) (n : ℕ)
-    → ((l : Last O) × (last ≡ Some l) × (l.transactions ≡ n)) ⊎ IfSome last (λ last. last.transactions ≢ n)
+-- what was said last was said for this number of transactions; or it wasn't, and an answer is due
+pub said_or_due : {O : Type 0} (last : Option (PreviousAnswer O)) (n : ℕ)
+    → ((l : PreviousAnswer O) × (last ≡ Some l) × (l.transactions ≡ n)) ⊎ IfSome last (λ last. last.transactions ≢ n)
 said_or_due None n = inr tt
 said_or_due {O = O} (Some last) n = by_test (nat_eq last.transactions n) refl
   where
@@ -152,13 +152,13 @@ said_or_due {O = O} (Some last) n = by_test (nat_eq last.transactions n) refl
     differ m n e same = grind (arith, nat_tests, e, same)
 
     by_test : (b : Bool) → nat_eq last.transactions n ≡ b
-        → ((l : Last O) × (Some last ≡ Some l) × (l.transactions ≡ n)) ⊎ IfSome (Some last) (λ last. last.transactions ≢ n)
+        → ((l : PreviousAnswer O) × (Some last ≡ Some l) × (l.transactions ≡ n)) ⊎ IfSome (Some last) (λ last. last.transactions ≢ n)
     by_test true e = inl (last, refl, equal _ _ e)
     by_test false e = inr (differ _ _ e)
 
 -- some items of all were taken, and the snapshots at the seals among them were answered
 pub record HasAnswered {R B O : Type 0} (remaining : R → Option (List ℕ)) (course : Course O) (text : List ℕ) (recording : RecordingWithin R B)
-    (before now : Option (List ℕ)) (answered : Option (Last O)) : Type 0 where
+    (before now : Option (List ℕ)) (answered : Option (PreviousAnswer O)) : Type 0 where
   pub taken : List Item
   pub ahead : Answers
   pub said : List Said
@@ -188,14 +188,14 @@ none-answered remaining course text recording before is = record {
 }
 
 module _ {R B O : Type 0} (remaining : R → Option (List ℕ)) (course : Course O) (text : List ℕ)
-    (old new : RecordingWithin R B) (before now : Option (List ℕ)) (answered : Option (Last O)) (way : HasAnswered remaining course text old before now answered) where
+    (old new : RecordingWithin R B) (before now : Option (List ℕ)) (answered : Option (PreviousAnswer O)) (way : HasAnswered remaining course text old before now answered) where
   first-kept : take (length way.taken) (answers_within course.limits text).items ≡ way.taken
   first-kept = first-taken (answers_within course.limits text) way.taken way.ahead way.whole
 
   -- memory is out before the next answer
   pub wants_memory : (after : Option (List ℕ)) (code : ℕ) → Prints now after (memory_line course.options.json) Memory code → EndsEarly course text before after code
   wants_memory after code prints =
-      ended course text before (length way.taken) halt.NoMemory way.said now after code tt
+      ended course text before (length way.taken) error.NoMemory way.said now after code tt
       (subst (λ items. AreSaid course.is_said (sealed_in items) way.said) (sym first-kept) way.answers) way.out prints
 
   -- the texts with one more
@@ -208,7 +208,7 @@ module _ {R B O : Type 0} (remaining : R → Option (List ℕ)) (course : Course
       → AreSaid course.is_said (sealed_in way.taken ++ s ∷ []) (way.said ++ one ∷ [])
   pushed s one answer repeats = AreSaid-push (course.is_said) (sealed_in way.taken) way.said s one way.answers answer (same answered way.last repeats)
     where
-      same : (o : Option (Last O)) → IsLast course o way.taken way.said → Repeats course s o one
+      same : (o : Option (PreviousAnswer O)) → IsLast course o way.taken way.said → Repeats course s o one
           → (t : Sessions) (other : Said) → last_or None (sealed_in way.taken) ≡ Some t → last_or None way.said ≡ Some other → t ≡ s → other ≡ one
       same None known repeats t other sealed said is = absurd (nothing other (sym (ap (last_or None) known.1) ∙ said))
       same (Some last) known repeats t other sealed said is =
@@ -218,7 +218,7 @@ module _ {R B O : Type 0} (remaining : R → Option (List ℕ)) (course : Course
 
   -- ---- at a seal
 
-  module _ (at : TakesMoment course.limits remaining way.taken way.ahead (Ok moment.Seal) new) where
+  module _ (at : TakesCheckpoint course.limits remaining way.taken way.ahead (Ok checkpoint.Seal) new) where
     -- all that was taken then, with the seal
     abbrev sealed_past : List Item
     sealed_past = way.taken ++ (at.0 ++ item.Seal ∷ [])
@@ -241,15 +241,15 @@ module _ {R B O : Type 0} (remaining : R → Option (List ℕ)) (course : Course
     still-seal : (s : Sessions) → s ≡ finished_in sealed_past → IsStill course s answered
     still-seal s same = by answered way.last
       where
-        by : (o : Option (Last O)) → IsLast course o way.taken way.said → IsStill course s o
+        by : (o : Option (PreviousAnswer O)) → IsLast course o way.taken way.said → IsStill course s o
         by None known = tt
         by (Some last) known = λ counted.
             let now : s ≡ finished_in (way.taken ++ at.0) = same ∙ finished-seal way.taken at.0 in
             let still = same-passed way.taken at.0 at.2.0 (sym (ap transaction_count now) ∙ sym counted ∙ known.1.0) in
             subst (λ s. IsTold course s last.outcome) (sym (now ∙ still)) known.1.1
 
-    -- it is said, and is what was said last
-    answered-seal : (s : Sessions) (last : Last O) (after : Option (List ℕ)) → s ≡ finished_in sealed_past
+    -- this snapshot has its answer, which is what was said last
+    answered-seal : (s : Sessions) (last : PreviousAnswer O) (after : Option (List ℕ)) → s ≡ finished_in sealed_past
         → SaysAgain course s answered now after last → HasAnswered remaining course text new before after (Some last)
     answered-seal s last after same ((is, out), repeats) =
         let one = course.say last.outcome in
@@ -275,7 +275,7 @@ module _ {R B O : Type 0} (remaining : R → Option (List ℕ)) (course : Course
 
   -- ---- at the end
 
-  module _ (at : TakesMoment course.limits remaining way.taken way.ahead (Ok moment.End) new) where
+  module _ (at : TakesCheckpoint course.limits remaining way.taken way.ahead (Ok checkpoint.End) new) where
     -- all that was taken
     abbrev all_past : List Item
     all_past = way.taken ++ at.0
@@ -301,7 +301,7 @@ module _ {R B O : Type 0} (remaining : R → Option (List ℕ)) (course : Course
     is_due : IfSome answered (λ last. last.transactions ≢ transaction_count (finished_in all_past)) → is_due_after true all_past ≡ true
     is_due other = by answered other way.last
       where
-        by : (o : Option (Last O)) → IfSome o (λ last. last.transactions ≢ transaction_count (finished_in all_past)) → IsLast course o way.taken way.said
+        by : (o : Option (PreviousAnswer O)) → IfSome o (λ last. last.transactions ≢ transaction_count (finished_in all_past)) → IsLast course o way.taken way.said
             → is_due_after true all_past ≡ true
         by None other known = still_due way.taken at.0 at.1.0 known.0
         by (Some last) other known = elim (due-passed way.taken at.0 at.1.0) [
@@ -321,7 +321,7 @@ module _ {R B O : Type 0} (remaining : R → Option (List ℕ)) (course : Course
           (pushed s one answer (nothing_again course s answered one other))))
 
       -- the answer is the last text
-      end-kept : (after : Option (List ℕ)) (last : Last O) → SaysLast course s now after last → AllAnswered course text before after last
+      end-kept : (after : Option (List ℕ)) (last : PreviousAnswer O) → SaysLast course s now after last → AllAnswered course text before after last
       end-kept after last (is, out) = (
         way.said ++ course.say last.outcome ∷ [],
         end-answered (course.say last.outcome) is.1.0,
@@ -349,7 +349,7 @@ module _ {R B O : Type 0} (remaining : R → Option (List ℕ)) (course : Course
       )
 
     -- nothing was finished since the last answer, which has said all
-    said_all : (last : Last O) → answered ≡ Some last → last.transactions ≡ transaction_count (finished_in all_past)
+    said_all : (last : PreviousAnswer O) → answered ≡ Some last → last.transactions ≡ transaction_count (finished_in all_past)
         → AllAnswered course text before now last
     said_all last is counted =
         let known = subst (λ o. IsLast course o way.taken way.said) is way.last in
@@ -366,7 +366,7 @@ module _ {R B O : Type 0} (remaining : R → Option (List ℕ)) (course : Course
         )
 
     -- what the answer at the end says of the run
-    ended-end : (s : Sessions) (after : Option (List ℕ)) (r : Result (Last O) ℕ) → s ≡ finished_in all_past
+    ended-end : (s : Sessions) (after : Option (List ℕ)) (r : Result (PreviousAnswer O) ℕ) → s ≡ finished_in all_past
         → IfSome answered (λ last. last.transactions ≡ transaction_count s → (after ≡ now) × (r ≡ Ok last))
         → (IfSome answered (λ last. last.transactions ≢ transaction_count s)
         → MatchResult r (SaysLast course s now after) (EndsAnswering course s now after))
@@ -374,18 +374,18 @@ module _ {R B O : Type 0} (remaining : R → Option (List ℕ)) (course : Course
     ended-end s after r same said due = elim (said_or_due answered (transaction_count s)) [
       | inl known ↦
           again known.0 known.1 known.2
-          (subst (λ (o : Option (Last O)). IfSome o (λ last. last.transactions ≡ transaction_count s → (after ≡ now) × (r ≡ Ok last))) known.1 said
+          (subst (λ (o : Option (PreviousAnswer O)). IfSome o (λ last. last.transactions ≡ transaction_count s → (after ≡ now) × (r ≡ Ok last))) known.1 said
           known.2)
       | inr other ↦ fresh other r (due other)
     ]
       where
-        again : (last : Last O) → answered ≡ Some last → last.transactions ≡ transaction_count s → (after ≡ now) × (r ≡ Ok last)
+        again : (last : PreviousAnswer O) → answered ≡ Some last → last.transactions ≡ transaction_count s → (after ≡ now) × (r ≡ Ok last)
             → MatchResult r (AllAnswered course text before after) (EndsEarly course text before after)
         again last is counted sent =
             subst (λ r. MatchResult r (AllAnswered course text before after) (EndsEarly course text before after)) (sym sent.1)
             (subst (λ o. AllAnswered course text before o last) (sym sent.0) (said_all last is (counted ∙ ap transaction_count same)))
 
-        fresh : IfSome answered (λ last. last.transactions ≢ transaction_count s) → (r : Result (Last O) ℕ)
+        fresh : IfSome answered (λ last. last.transactions ≢ transaction_count s) → (r : Result (PreviousAnswer O) ℕ)
             → MatchResult r (SaysLast course s now after) (EndsAnswering course s now after)
             → MatchResult r (AllAnswered course text before after) (EndsEarly course text before after)
         fresh other (Ok last) is = end-kept s same other after last is
@@ -393,95 +393,95 @@ module _ {R B O : Type 0} (remaining : R → Option (List ℕ)) (course : Course
 
   -- ---- at a fault
 
-  module _ (fault : RowFault) (at : TakesMoment course.limits remaining way.taken way.ahead (Err fault) new) where
+  module _ (fault : RowFault) (at : TakesCheckpoint course.limits remaining way.taken way.ahead (Err fault) new) where
     no_memory : true ≡ false → ⊥
     no_memory h = cc
 
-    by_halt : (n : ℕ) (why : Halt) (items : List Item) (after : Option (List ℕ)) (code : ℕ) → MayEnd course.limits text n why → take n (answers_within course.limits text).items ≡ items
-        → sealed_in items ≡ sealed_in way.taken → PrintsOrMemory course.options.json now after (halted course.options.json why) (halt_status why) code
+    by_error : (n : ℕ) (why : RunError) (items : List Item) (after : Option (List ℕ)) (code : ℕ) → MayEnd course.limits text n why → take n (answers_within course.limits text).items ≡ items
+        → sealed_in items ≡ sealed_in way.taken → PrintsOrMemory course.options.json now after (printed_error course.options.json why) (run_error_status why) code
         → EndsEarly course text before after code
-    by_halt n why items after code may taken none prints =
+    by_error n why items after code may taken none prints =
         ended_or course text before n why way.said now after code may
         (subst (λ snapshots. AreSaid course.is_said snapshots way.said) (sym (ap sealed_in taken ∙ none)) way.answers) way.out prints
 
     -- the fault of the records, a reader that failed, or `NoMemory`
     stopped : (after : Option (List ℕ)) (code : ℕ) → (fault.kind ≡ kind.Read → FailsBehind course.limits way.taken fault.row (records_within course.limits text))
-        → PrintsOrMemory course.options.json now after (halted course.options.json (by_row fault)) (halt_status (by_row fault)) code
+        → PrintsOrMemory course.options.json now after (printed_error course.options.json (by_row fault)) (run_error_status (by_row fault)) code
         → EndsEarly course text before after code
     stopped after code failed = by_test (is_memory fault.kind) refl
       where
         by_test : (b : Bool) → is_memory fault.kind ≡ b
-            → PrintsOrMemory course.options.json now after (halted course.options.json (cond b halt.NoMemory (halt.Row fault)))
-            (halt_status (cond b halt.NoMemory (halt.Row fault))) code
+            → PrintsOrMemory course.options.json now after (printed_error course.options.json (cond b error.NoMemory (error.Row fault)))
+            (run_error_status (cond b error.NoMemory (error.Row fault))) code
             → EndsEarly course text before after code
-        by_test true e prints = by_halt (length way.taken) halt.NoMemory way.taken after code tt first-kept refl prints
+        by_test true e prints = by_error (length way.taken) error.NoMemory way.taken after code tt first-kept refl prints
         by_test false e prints = elim at.3 [
           | inl last ↦
               let items =
               all-items (answers_within course.limits text) way.taken at.0 at.1 way.ahead way.whole at.2
               ∙ ap (λ (rest : Answers). (way.taken ++ at.0) ++ rest.items) last.0 ∙ append-nil (way.taken ++ at.0) in
-              by_halt (length (answers_within course.limits text).items) (halt.Row fault) (way.taken ++ at.0) after code
+              by_error (length (answers_within course.limits text).items) (error.Row fault) (way.taken ++ at.0) after code
               (inl (all-fault (answers_within course.limits text) way.taken at.0 at.1 way.ahead way.whole at.2 ∙ ap (λ (rest : Answers). rest.fault) last.0, refl))
               (take-length (answers_within course.limits text).items ∙ items) (sealed-passed way.taken at.0 at.2.0) prints
           | inr fails ↦ elim fails.0 [
             | inl read ↦
                 let behind = failed read in
                 let before = items_before_within course.limits fault.row (records_within course.limits text) in
-                by_halt (length before) (halt.Row fault) before after code (inr (read, behind.0, refl)) (first-items course.limits fault.row (records_within course.limits text) behind.0.1)
+                by_error (length before) (error.Row fault) before after code (inr (read, behind.0, refl)) (first-items course.limits fault.row (records_within course.limits text) behind.0.1)
                 (ap sealed_in behind.3 ∙ sealed-passed way.taken behind.1 behind.2) prints
             | inr memory ↦ absurd (no_memory (sym (ap is_memory memory) ∙ e))
           ]
         ]
 
-  -- ---- the moment that comes, as the call says that takes it
+  -- ---- the next checkpoint, as the call says that reads up to it
 
-  module _ (m : Moment)
+  module _ (m : Checkpoint)
       (takes : (taken : List Item) (ahead : Answers) → IsRecording course.limits remaining old taken ahead
-      → TakesMoment course.limits remaining taken ahead (Ok m) new)
+      → TakesCheckpoint course.limits remaining taken ahead (Ok m) new)
       (s : Sessions) (finished : (taken : List Item) (ahead : Answers) → IsRecording course.limits remaining new taken ahead → s ≡ finished_in taken) where
-    comes : (n : Moment) → m ≡ n → TakesMoment course.limits remaining way.taken way.ahead (Ok n) new
-    comes n is = subst (λ m. TakesMoment course.limits remaining way.taken way.ahead (Ok m) new) is (takes way.taken way.ahead way.recorded)
+    comes : (n : Checkpoint) → m ≡ n → TakesCheckpoint course.limits remaining way.taken way.ahead (Ok n) new
+    comes n is = subst (λ m. TakesCheckpoint course.limits remaining way.taken way.ahead (Ok m) new) is (takes way.taken way.ahead way.recorded)
 
     -- at a seal what is to be said of the snapshot is what was said last from then on
-    pub says-seal : m ≡ moment.Seal → (last : Last O) (after : Option (List ℕ)) → (IsStill course s answered → SaysAgain course s answered now after last)
+    pub says-seal : m ≡ checkpoint.Seal → (last : PreviousAnswer O) (after : Option (List ℕ)) → (IsStill course s answered → SaysAgain course s answered now after last)
         → HasAnswered remaining course text new before after (Some last)
     says-seal is last after says =
-        let at = comes moment.Seal is in
+        let at = comes checkpoint.Seal is in
         let same = finished (sealed_past at) at.1 at.3 in
         answered-seal at s last after same (says (still-seal at s same))
 
     -- or the run ends in it
-    pub ends-seal : m ≡ moment.Seal → (r : Result (Last O) ℕ) (why : ℕ) (after : Option (List ℕ)) → IsErrAnd r (λ code. code ≡ why)
+    pub ends-seal : m ≡ checkpoint.Seal → (r : Result (PreviousAnswer O) ℕ) (why : ℕ) (after : Option (List ℕ)) → IsErrAnd r (λ code. code ≡ why)
         → (IsStill course s answered → EndsAgain course s answered now after why)
         → MatchResult r (AllAnswered course text before after) (EndsEarly course text before after)
     ends-seal is r why after gives ends =
-        let at = comes moment.Seal is in
+        let at = comes checkpoint.Seal is in
         let same = finished (sealed_past at) at.1 at.3 in
         ended_by (AllAnswered course text before after) (EndsEarly course text before after) r why gives
         (ended-seal at s after why same (ends (still-seal at s same)))
 
     -- what the answer at the end says of the run
-    pub says-end : m ≡ moment.End → (after : Option (List ℕ)) (r : Result (Last O) ℕ)
+    pub says-end : m ≡ checkpoint.End → (after : Option (List ℕ)) (r : Result (PreviousAnswer O) ℕ)
         → IfSome answered (λ last. last.transactions ≡ transaction_count s → (after ≡ now) × (r ≡ Ok last))
         → (IfSome answered (λ last. last.transactions ≢ transaction_count s)
         → MatchResult r (SaysLast course s now after) (EndsAnswering course s now after))
         → MatchResult r (AllAnswered course text before after) (EndsEarly course text before after)
     says-end is after r said due =
-        let at = comes moment.End is in
+        let at = comes checkpoint.End is in
         ended-end at s after r (finished (all_past at) (ending None) at.2) said due
 
-    pub finished-end : m ≡ moment.End → new.snapshot ≡ finished_in (answers_within course.limits text).items
-    finished-end is = all-finished (comes moment.End is)
+    pub finished-end : m ≡ checkpoint.End → new.snapshot ≡ finished_in (answers_within course.limits text).items
+    finished-end is = all-finished (comes checkpoint.End is)
 
   -- the run ends by a fault
   pub ends-fault : (fault : RowFault) (after : Option (List ℕ)) (code : ℕ)
       → ((taken : List Item) (ahead : Answers) → IsRecording course.limits remaining old taken ahead
-      → TakesMoment course.limits remaining taken ahead (Err fault) new)
+      → TakesCheckpoint course.limits remaining taken ahead (Err fault) new)
       → IsWithin remaining old.rows (records_within course.limits text)
       → (fault.kind ≡ kind.Read → (all : List Record) (taken : List Item) (ahead : Answers)
       → answers_to course.limits all ≡ after_items taken ahead → IsWithin remaining old.rows all
       → IsRecording course.limits remaining old taken ahead → FailsBehind course.limits taken fault.row all)
-      → PrintsOrMemory course.options.json now after (halted course.options.json (by_row fault)) (halt_status (by_row fault)) code
+      → PrintsOrMemory course.options.json now after (printed_error course.options.json (by_row fault)) (run_error_status (by_row fault)) code
       → EndsEarly course text before after code
   ends-fault fault after code takes within failed prints =
       stopped fault (takes way.taken way.ahead way.recorded) after code
@@ -498,11 +498,11 @@ Gains-none (Some bytes) = Appends-none bytes
 pub nothing_read : {O : Type 0} (course : Course O) (text : List ℕ) (before after : Option (List ℕ)) (code : ℕ)
     → Prints before after (memory_line course.options.json) Memory code → EndsEarly course text before after code
 nothing_read course text before after code prints =
-    ended course text before 0 halt.NoMemory [] before after code tt (tt, tt) (Appends-none before) prints
+    ended course text before 0 error.NoMemory [] before after code tt (tt, tt) (Appends-none before) prints
 
 -- ---- one answer
 
--- the run ended in what is to be said of a snapshot
+-- the run ended while it said what is to be said of a snapshot
 pub ended_saying : {O : Type 0} (course : Course O) (s : Sessions) (holds : Said → Type 0) (o : O) (before now after : Option (List ℕ)) (why : ℕ)
     → course.is_said s (course.say o) → holds (course.say o) → now ≡ before → EndsIn course.options.json now after (course.say o).text why
     → EndsSaying course s holds before after why

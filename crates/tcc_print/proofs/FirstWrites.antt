@@ -25,7 +25,7 @@ module _ {X : Type 0} (p : X → Bool) where
       by rest true is = absurd (none-some y (sym (rw is at none)))
       by rest false is = rw is (rest (rw is at none))
 
-  -- what isn't found up to here, and doesn't stand here, isn't found up to behind it
+  -- what isn't found before an item, and isn't this item, isn't found up to the next one
   pub find-more : (xs : List X) (k : ℕ) (x : X) → find p (take k xs) ≡ None → slice_get xs k ≡ Some x → p x ≡ false → find p (take (k + 1) xs) ≡ None
   find-more xs k x none here fails =
       let next : k + 1 ≡ suc k = omega arith in
@@ -44,7 +44,7 @@ module _ (x : List ℕ) (v : ℕ) where
   writes_it : Site → Bool
   writes_it site = puts x v site.op
 
-  -- the first operation that writes it stands here
+  -- the first operation that writes it is this one
   pub op-here : (stand : Stand) (before ops : List Op) (k : ℕ) (op : Op) → find (puts x v) (take k ops) ≡ None → slice_get ops k ≡ Some op
       → puts x v op ≡ true
       → (site : Site) × (find (λ site. puts x v site.op) (sites_from stand before ops) ≡ Some site) × (site.stand ≡ stand)
@@ -90,7 +90,7 @@ module _ (x : List ℕ) (v : ℕ) where
       → writer (stand ∷ later) x v ≡ option_or (find (λ site. puts x v site.op) (sites_of stand)) (writer later x v)
   writer-cons stand later = find-append (λ site. puts x v site.op) (sites_of stand) (sites later)
 
-  -- the first transaction that writes it stands here
+  -- the first transaction that writes it is this one
   pub stands-here : (all : List Stand) (k : ℕ) (stand : Stand) (site : Site) → writer (take k all) x v ≡ None → slice_get all k ≡ Some stand
       → find (λ site. puts x v site.op) (sites_of stand) ≡ Some site → writer all x v ≡ Some site
   stands-here [] k stand site none here found = absurd (none-some stand here)
@@ -122,7 +122,7 @@ module _ (x : List ℕ) (v : ℕ) where
   pub stands-all : (all : List Stand) (k : ℕ) → writer (take k all) x v ≡ None → length all ≤ k → writer all x v ≡ None
   stands-all all k none past = ap (λ some. writer some x v) (sym (take_all k all past)) ∙ none
 
-  -- the first session that writes it stands here
+  -- the first session that writes it is this one
   pub parts-here : (j i : ℕ) (es : List (List ℕ × List Transaction)) (k : ℕ) (part : List ℕ × List Transaction) (site : Site) → i ≡ j + k
       → writer (stands_from j (take k es)) x v ≡ None → slice_get es k ≡ Some part → writer (stands_in i part.0 1 part.1) x v ≡ Some site
       → writer (stands_from j es) x v ≡ Some site
@@ -164,7 +164,7 @@ module _ (x : List ℕ) (v : ℕ) where
       → writer (stands_from 0 es) x v ≡ None
   parts-all es k none past = ap (λ some. writer (stands_from 0 some) x v) (sym (take_all k es past)) ∙ none
 
--- a transaction of a session, where it stands
+-- a transaction of a session, at its index
 pub stand-at : (session : ℕ) (name : List ℕ) (place : ℕ) (txns : List Transaction) (k : ℕ) (txn : Transaction) → slice_get txns k ≡ Some txn
     → slice_get (stands_in session name place txns) k ≡ Some (record { session = session; name = name; place = place + k; txn = txn })
 stand-at session name place [] k txn here = absurd (none-some txn here)

@@ -1,4 +1,4 @@
--- The line of read faults is its pieces, one after the other.
+-- The line of read faults is the concatenation of its pieces.
 use Rattle.std.proofs.Common.{◌≡◌, List, [], ◌∷◌, ◌++◌, ap, false, map, codes, append_assoc}
 use Rattle.serde_json.proofs.OnLiterals.{serde_json_on_literals}
 use Rattle.serde_json.specs.View.{items_of}

@@ -10,17 +10,17 @@ use Rattle.tcc_txn.specs.Snapshots.{Sessions}
 use Rattle.tcc_rows.specs.declared.rows.Item.{Item}
 use Rattle.tcc_rows.specs.declared.rows.Item.TheVariants as item
 use Rattle.tcc_txn.specs.declared.limits.Limits.{Limits}
-use Rattle.tcc_print.specs.Courses.{AreSaid, IsEndedCourse, IsWholeCourse, MayEnd, Said, halt_said, texts}
-use Rattle.tcc_print.specs.Moments.{at_end, is_due_after, sealed_after, sealed_in}
+use Rattle.tcc_print.specs.Courses.{AreSaid, IsEndedCourse, IsWholeCourse, MayEnd, Said, run_error_said, texts}
+use Rattle.tcc_print.specs.Checkpoints.{at_end, is_due_after, sealed_after, sealed_in}
 use Rattle.tcc_print.specs.Printed.{Prints}
-use Rattle.tcc_print.specs.Statuses.{code_of, halt_status, row_status}
-use Rattle.tcc_print.specs.declared.halt.Halt.{Halt}
-use Rattle.tcc_print.specs.declared.halt.Halt.TheVariants as halt
+use Rattle.tcc_print.specs.Statuses.{code_of, run_error_status, row_status}
+use Rattle.tcc_print.specs.declared.run_error.RunError.{RunError}
+use Rattle.tcc_print.specs.declared.run_error.RunError.TheVariants as error
 use Rattle.tcc_print.specs.declared.options.Options.{Options}
 use Rattle.tcc_print.specs.declared.status.Status.TheVariants.{Device, Memory}
-use Rattle.tcc_print.proofs.Moments.{last-push}
+use Rattle.tcc_print.proofs.Checkpoints.{last-push}
 
--- some snapshots, and this one behind them
+-- some snapshots, and this one after them
 abbrev EndsWith : List Sessions → Sessions → Type 0
 EndsWith snapshots s = (front : List Sessions) × (snapshots ≡ front ++ s ∷ [])
 
@@ -45,7 +45,7 @@ from_seal before items (inl (none, same)) =
 from_seal before items (inr (front, is)) =
     moved before item.Seal items (sealed_after before (item.Seal ∷ items)) (finished_in before ∷ front, ap (λ rest. finished_in before ∷ rest) is)
 
--- the snapshots at seals among what follows some items end with what was finished: by whether an answer is due before them
+-- the snapshots at the seals after some items end with what was finished; by cases, whether an answer is due before them
 abbrev Since : Bool → List Item → List Item → Type 0
 Since true before items = EndsWith (sealed_after before items) (finished_in (before ++ items))
 Since false before items = EndsSince before items
@@ -126,37 +126,37 @@ module _ (limits : Limits) (is_said : Sessions → Said → Type 0) (options : O
   abbrev OfAll : Type 0
   OfAll = ((answers_within limits bytes).fault ≡ None) × is_said (finished_in (answers_within limits bytes).items) last
 
-  abbrev Halts : Type 0
-  Halts = (n : ℕ) × (why : Halt) × MayEnd limits bytes n why × (last ≡ halt_said options why)
+  abbrev RunErrors : Type 0
+  RunErrors = (n : ℕ) × (why : RunError) × MayEnd limits bytes n why × (last ≡ run_error_said options why)
 
-  of_all_or_halt : OfAll ⊎ Halts
-  of_all_or_halt = by ends
+  of_all_or_error : OfAll ⊎ RunErrors
+  of_all_or_error = by ends
     where
-      by : IsWholeCourse is_said (answers_within limits bytes) said ⊎ IsEndedCourse limits is_said options bytes said → OfAll ⊎ Halts
+      by : IsWholeCourse is_said (answers_within limits bytes) said ⊎ IsEndedCourse limits is_said options bytes said → OfAll ⊎ RunErrors
       by (inl (unfaulted, are)) = inl (unfaulted, last_said is_said (answers_within limits bytes).items said last are end)
       by (inr (answers, (n, why, may, are, same))) =
-          inr (n, why, may, inside last (halt_said options why) (sym end ∙ ap (last_or None) same ∙ last-push None answers (halt_said options why)))
+          inr (n, why, may, inside last (run_error_said options why) (sym end ∙ ap (last_or None) same ∙ last-push None answers (run_error_said options why)))
 
   -- what has a certificate was said of all that was finished
   pub certified_last : (text : List ℕ) → last.certificate ≡ Some text
       → ((answers_within limits bytes).fault ≡ None) × is_said (finished_in (answers_within limits bytes).items) last
-  certified_last text has = elim of_all_or_halt [
+  certified_last text has = elim of_all_or_error [
     | inl all ↦ all
-    | inr halts ↦ absurd (nothing text (sym (ap (λ (s : Said). s.certificate) halts.3) ∙ has))
+    | inr run_errors ↦ absurd (nothing text (sym (ap (λ (s : Said). s.certificate) run_errors.3) ∙ has))
   ]
 
-  -- so was what a run said last that neither a device nor refused memory ended, where the records have no fault
+  -- so was what a run said last, where neither a device nor refused memory ended it and the records have no fault
   module _ (unfaulted : (answers_within limits bytes).fault ≡ None) (code : ℕ) (fine : code ≢ code_of Device) (space : code ≢ code_of Memory)
       (is : code ≡ code_of last.status) where
-    halted : (n : ℕ) (why : Halt) → MayEnd limits bytes n why → code ≡ code_of (halt_status why) → ⊥
-    halted n (halt.Row fault) (inl (found, at)) ends = nothing fault (sym unfaulted ∙ found)
-    halted n (halt.Row fault) (inr (read, at, count)) ends = fine (ends ∙ ap (λ kind. code_of (row_status kind)) read)
-    halted n halt.NoMemory may ends = space ends
-    halted n (halt.Reads faults) may ends = may
-    halted n (halt.Text fault) may ends = may
+    printed_error : (n : ℕ) (why : RunError) → MayEnd limits bytes n why → code ≡ code_of (run_error_status why) → ⊥
+    printed_error n (error.Row fault) (inl (found, at)) ends = nothing fault (sym unfaulted ∙ found)
+    printed_error n (error.Row fault) (inr (read, at, count)) ends = fine (ends ∙ ap (λ kind. code_of (row_status kind)) read)
+    printed_error n error.NoMemory may ends = space ends
+    printed_error n (error.Reads faults) may ends = may
+    printed_error n (error.Text fault) may ends = may
 
     pub last_of_all : is_said (finished_in (answers_within limits bytes).items) last
-    last_of_all = elim of_all_or_halt [
+    last_of_all = elim of_all_or_error [
       | inl all ↦ all.1
-      | inr halts ↦ absurd (halted halts.0 halts.1 halts.2 (is ∙ ap (λ (s : Said). code_of s.status) halts.3))
+      | inr run_errors ↦ absurd (printed_error run_errors.0 run_errors.1 run_errors.2 (is ∙ ap (λ (s : Said). code_of s.status) run_errors.3))
     ]

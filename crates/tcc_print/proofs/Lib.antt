@@ -2,11 +2,12 @@ pub mod Sent
 mod WorkedTexts
 pub mod JsonPieces
 pub mod Counted
-pub mod Moments
+pub mod Checkpoints
 pub mod Courses
 pub mod LastSaid
 pub mod Saying
-pub mod AtMoments
+pub mod Statuses
+pub mod AtCheckpoints
 pub mod Noted
-mod RowNotes
+pub mod RowNotes
 mod FirstWrites

@@ -1,4 +1,4 @@
--- What is printed, from what was sent.
+-- What is printed, by what was sent.
 use Rattle.std.proofs.Common.{◌≡◌, ℕ, Bool, List, Option, Result, Ok, Err, inl, inr, ◌∙◌}
 use Rattle.std.specs.Prelude.{IfErr, MatchResult, OnOk}
 use Rattle.std.specs.Io.KnownBytes.{Appends}
@@ -6,7 +6,7 @@ use Rattle.tcc_print.specs.Printed.{EndsIn, PrintsOrMemory}
 use Rattle.tcc_print.specs.Statuses.{code_of}
 use Rattle.tcc_print.specs.declared.status.Status.{Status}
 
--- the text went out with its number, or the run ended in it
+-- the text was written and has its status, or the run ended while it was written
 pub printed : {A : Type 0} (before after : Option (List ℕ)) (text : List ℕ) (status : Status) (json : Bool) (sent : Result A ℕ) (code : ℕ)
     → OnOk sent (Appends before after text) → IfErr sent (EndsIn json before after text)
     → MatchResult sent (λ _. code ≡ code_of status) (λ c. code ≡ c) → PrintsOrMemory json before after text status code

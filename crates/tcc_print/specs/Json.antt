@@ -1,4 +1,4 @@
--- The JSON of faults: one line with the compact text of one object, whose keys stand in byte order.
+-- The JSON of faults: one line with the compact text of one object, whose keys are in byte order.
 use Rattle.std.specs.Prelude.{ℕ, List, map, codes}
 use Rattle.serde_json.specs.Data.{Data, Members, number, unsigned, string, array, object, no_members, member}
 use Rattle.serde_json.specs.View.{items_of}
@@ -7,8 +7,8 @@ use Rattle.tcc_rows.specs.declared.fault.RowFaultKind.{RowFaultKind}
 use Rattle.tcc_rows.specs.declared.fault.RowFaultKind.TheVariants.{Unfinished}
 use Rattle.tcc_reads.specs.declared.fault.ReadFault.{ReadFault}
 use Rattle.tcc_answer.specs.Json.{json_line}
-use Rattle.tcc_print.specs.declared.halt.Halt.{Halt}
-use Rattle.tcc_print.specs.declared.halt.Halt.TheVariants as halt
+use Rattle.tcc_print.specs.declared.run_error.RunError.{RunError}
+use Rattle.tcc_print.specs.declared.run_error.RunError.TheVariants as error
 use Rattle.tcc_print.specs.Texts.{certificate_fault_text, row_word, read_word}
 
 abbrev pub read_fault_json : ReadFault → Data
@@ -39,9 +39,9 @@ row_fault_json fault = object
     (member (codes "row") (number (unsigned fault.row))
     (row_session_json fault.kind))))
 
--- what stands in the place of an answer; a fault of a certificate, of which no JSON is made, as in the text
-abbrev pub halt_line : Halt → List ℕ
-halt_line (halt.Row fault) = json_line (row_fault_json fault)
-halt_line (halt.Reads faults) = json_line (unresolved_json faults.items)
-halt_line (halt.Text fault) = certificate_fault_text fault
-halt_line halt.NoMemory = codes "{\"answer\":\"memory\"}\n"
+-- what is printed in place of an answer; a fault of a certificate has no JSON, and is printed as in the text
+abbrev pub run_error_line : RunError → List ℕ
+run_error_line (error.Row fault) = json_line (row_fault_json fault)
+run_error_line (error.Reads faults) = json_line (unresolved_json faults.items)
+run_error_line (error.Text fault) = certificate_fault_text fault
+run_error_line error.NoMemory = codes "{\"answer\":\"memory\"}\n"

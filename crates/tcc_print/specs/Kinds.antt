@@ -7,7 +7,7 @@ use Rattle.tcc_cert.specs.declared.fault.CertFaultKind.TheVariants as text_kind
 use Rattle.tcc_print.specs.declared.status.Status.{Status}
 use Rattle.tcc_print.specs.declared.status.Status.TheVariants.{RowFault, Limit, Memory, Device, CertificateFault}
 
--- how a kind of fault is told: its word, and the status of a run that it ended
+-- how a kind of fault is reported: its word, and the status of a run that it ended
 pub record Told : Type 0 where
   pub word : List ℕ
   pub status : Status

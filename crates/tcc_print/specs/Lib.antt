@@ -2,12 +2,11 @@ pub mod Kinds
 pub mod Statuses
 pub mod Texts
 pub mod Json
-pub mod Moments
+pub mod Checkpoints
 pub mod Courses
 pub mod Saying
-pub mod Halts
+pub mod RunErrors
 pub mod Printed
-pub mod Large
 pub mod Notes
 pub mod RowNotes
 pub mod private

@@ -1,4 +1,4 @@
--- What standard error tells a person beside the answers.
+-- What standard error says to a person beside the answers.
 use Rattle.std.specs.Prelude.{ℕ, ◌-◌, List, [], ◌∷◌, ◌++◌, Option, None, Some, length, map, take, nat_lt, codes, decimal, if◌then◌else◌, Result, Ok, Err}
 use Rattle.std.specs.Io.KnownBytes.{Appends}
 use Rattle.tcc_txn.specs.Snapshots.{Sessions}
@@ -13,20 +13,20 @@ use Rattle.tcc_answer.specs.declared.answer.Answer.{Answer}
 use Rattle.tcc_answer.specs.declared.answer.Answer.TheVariants as answer
 use Rattle.tcc_print.specs.Texts.{place_text, read_fault_told}
 
--- no more of the text than a part from its front went out
+-- no more of the text than a part from its front was written
 abbrev pub IsNoted : Option (List ℕ) → Option (List ℕ) → List ℕ → Type 0
 IsNoted before after text = (n : ℕ) × Appends before after (take n text)
 
--- notes, or parts of them, went out behind what was there
+-- notes, or parts of them, were written after what was there
 abbrev pub AddsNotes : Option (List ℕ) → Option (List ℕ) → Type 0
 AddsNotes before after = (bytes : List ℕ) × Appends before after bytes
 
--- of each of these notes no more than a part from its front went out, one behind the other
+-- of each of these notes no more than a part from its front was written, in their order
 abbrev pub AddsEach : Option (List ℕ) → Option (List ℕ) → List (List ℕ) → Type 0
 AddsEach before after [] = Appends before after []
 AddsEach before after (text ∷ texts) = (between : Option (List ℕ)) × IsNoted before between text × AddsEach between after texts
 
--- all of these notes went out, one behind the other
+-- all of these notes were written, in their order
 abbrev pub AddsAll : Option (List ℕ) → Option (List ℕ) → List (List ℕ) → Type 0
 AddsAll before after [] = Appends before after []
 AddsAll before after (text ∷ texts) = (between : Option (List ℕ)) × Appends before between text × AddsAll between after texts
@@ -36,11 +36,11 @@ abbrev pub too_few_text : ℕ → ℕ → List ℕ
 too_few_text required transactions =
     codes "--require " ++ (decimal required ++ (codes ": only " ++ (decimal transactions ++ codes " transactions\n")))
 
--- of an order of so many numbers, `init` among them: that it has fewer transactions than are required
+-- the note of an order of this length, which counts `init`: that it has fewer transactions than are required
 abbrev pub order_note : ℕ → ℕ → List ℕ
 order_note required numbers = if nat_lt (numbers - 1) required then too_few_text required (numbers - 1) else []
 
--- of the last answer of a run: that it is such an order
+-- the note of the last answer of a run: that it is such an order
 abbrev pub last_note : ℕ → Option Answer → List ℕ
 last_note required None = []
 last_note required (Some (answer.Anomaly a)) = []
@@ -65,7 +65,7 @@ writer_told kind None = codes "nobody wrote it"
 writer_told kind (Some write) =
     place_text write.stand.name write.stand.place ++ (codes " op " ++ (decimal (at write) ++ write_told kind))
 
--- what is told of the fault, and of the first write of its value at its key
+-- the fault, and what is said of the first write of its value at its key
 abbrev pub read_note : Sessions → ReadFault → List ℕ
 read_note s fault =
     read_fault_told fault ++ (codes ": " ++ (writer_told fault.kind (writer (stands s) fault.key fault.value) ++ codes "\n"))

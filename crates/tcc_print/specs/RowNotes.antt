@@ -1,4 +1,4 @@
--- What standard error tells a person of the fault of a record: what the record has, and what is expected there.
+-- What standard error says to a person about the fault of a record: what the record has, and what is expected there.
 use Rattle.std.specs.Prelude.{ℕ, ◌/◌, ◌%◌, Bool, ◌&&◌, not, nat_eq, nat_le, nat_lt, List, [], ◌∷◌, ◌++◌, length, take, flat_map, slice_get, slice_index_or, Option, None, Some, codes, decimal, if◌then◌else◌}
 use Rattle.tcc_txn.specs.Limits.{most_bytes, most_keys, most_seals, most_sessions, most_transactions}
 use Rattle.tcc_txn.specs.declared.limits.Limits.{Limits}
@@ -19,7 +19,7 @@ is_plain byte = nat_le 32 byte && (nat_le byte 126 && (not (nat_eq byte 34) && n
 abbrev pub hex_digit : ℕ → ℕ
 hex_digit n = slice_index_or (codes "0123456789abcdef") n 0
 
--- a plain byte as it is, another by the two digits of its number
+-- a plain byte as it is, any other by the two hexadecimal digits of its value
 abbrev pub byte_shown : ℕ → List ℕ
 byte_shown byte = if is_plain byte then byte ∷ [] else codes "\\x" ++ (hex_digit (byte / 16) ∷ hex_digit (byte % 16) ∷ [])
 
@@ -30,7 +30,7 @@ quoted bytes =
 
 -- ---- what the record has
 
--- the fields of a record, one at least, with commas between them; of each as many bytes as are shown, and one more
+-- the fields of a record, one at least, with commas between them; of each field no more bytes than are shown, and one more
 abbrev pub line_shown : List ℕ → List (List ℕ) → List ℕ
 line_shown first others = take 49 first ++ flat_map (λ field. codes "," ++ take 49 field) others
 
@@ -49,7 +49,7 @@ abbrev pub session_named : Option (List ℕ) → List ℕ
 session_named None = []
 session_named (Some session) = codes " of session " ++ quoted session
 
--- of a field at this place: of which session it is, where that is another field
+-- for a field at this index: the session of its record, where that is another field
 abbrev pub session_shown : ℕ → List (List ℕ) → List ℕ
 session_shown place fields = if nat_lt 0 place then session_named (session_among fields) else []
 
@@ -57,7 +57,7 @@ abbrev pub field_of : ℕ → List (List ℕ) → Option (List ℕ) → List ℕ
 field_of place fields None = []
 field_of place fields (Some field) = quoted field ++ (session_shown place fields ++ codes ": ")
 
--- the field at this place, if it is known
+-- the field at this index, if it is known
 abbrev pub field_shown : ℕ → List (List ℕ) → List ℕ
 field_shown place fields = field_of place fields (slice_get fields place)
 
@@ -66,7 +66,7 @@ shown_text (shown.Field place) fields = field_shown place fields
 shown_text shown.Record fields = record_shown fields
 shown_text shown.Nothing fields = []
 
--- what is shown of a record of so many fields: the field that is wrong; the whole record; nothing, where the input is wrong
+-- what is shown of a record with this number of fields: the field that is wrong; the whole record; nothing, where the input is wrong
 abbrev pub shown_of : RowFaultKind → ℕ → Shown
 shown_of row_kind.FieldCount fields = shown.Record
 shown_of row_kind.BadSession fields = shown.Field 0
@@ -97,7 +97,7 @@ name_form = codes "a name, which is 1 to 32 of A-Z, a-z, 0-9, '_', '.' and '-'"
 abbrev record_form : List ℕ
 record_form = codes "SESSION,begin or SESSION,r,KEY,VALUE or SESSION,w,KEY,VALUE or SESSION,commit or SESSION,abort or seal"
 
--- in the place of an unknown word of a record of so many fields
+-- what is expected in place of an unknown word, by the number of fields of its record
 abbrev pub word_stands : ℕ → List ℕ
 word_stands fields =
     if nat_eq fields 1 then record_form
@@ -110,11 +110,11 @@ abbrev pub wider : Limits → List ℕ → List ℕ → List ℕ
 wider Small small large = small
 wider Large small large = large
 
--- at most so many of these
+-- at most this many of these
 abbrev pub most_text : ℕ → List ℕ → List ℕ
 most_text most things = codes "at most " ++ (decimal most ++ (codes " " ++ things))
 
--- a limit that is passed
+-- a limit that is exceeded
 abbrev pub limit_text : Limits → RowFaultKind → List ℕ
 limit_text limits row_kind.TooManyOps = most_text MAX_OPERATIONS (codes "operations in a transaction")
 limit_text limits row_kind.TooManySessions = most_text (most_sessions limits) (wider limits (codes "sessions, see --large") (codes "sessions"))
@@ -126,7 +126,7 @@ limit_text limits row_kind.TooManySeals = most_text (most_seals limits) (wider l
 limit_text limits row_kind.Read = most_text (most_bytes limits) (codes "bytes, from a reader that does not fail")
 limit_text limits _ = []
 
--- what is expected where a record of so many fields has a fault of this kind
+-- what is expected where a record has a fault of this kind, by the number of its fields
 abbrev pub expected_text : Limits → RowFaultKind → ℕ → List ℕ
 expected_text limits row_kind.FieldCount fields = stands_text record_form
 expected_text limits row_kind.BadSession fields = stands_text name_form

@@ -1,4 +1,4 @@
--- The texts of faults and verdicts, as they go out: ASCII, each line ended by one line feed.
+-- The texts of faults and verdicts, as they are printed: ASCII, each line ended by one line feed.
 use Rattle.std.specs.Prelude.{ℕ, List, [], ◌++◌, length, flat_map, codes, decimal}
 use Rattle.tcc_rows.specs.declared.fault.RowFault.{RowFault}
 use Rattle.tcc_rows.specs.declared.fault.RowFaultKind.{RowFaultKind}
@@ -14,8 +14,8 @@ use Rattle.tcc_rules.specs.declared.judgement.Claim.TheVariants as claim
 use Rattle.tcc_rules.specs.declared.verdict.Rule.{Rule}
 use Rattle.tcc_rules.specs.declared.verdict.Verdict.{Verdict}
 use Rattle.tcc_rules.specs.declared.verdict.Verdict.TheVariants as verdict
-use Rattle.tcc_print.specs.declared.halt.Halt.{Halt}
-use Rattle.tcc_print.specs.declared.halt.Halt.TheVariants as halt
+use Rattle.tcc_print.specs.declared.run_error.RunError.{RunError}
+use Rattle.tcc_print.specs.declared.run_error.RunError.TheVariants as error
 use Rattle.tcc_print.specs.Kinds.{certificate_told, row_told}
 
 -- the place of a transaction in its session: SESSION/PLACE
@@ -55,7 +55,7 @@ read_fault_told fault =
     read_word fault.kind
     ++ (codes " " ++ (place_text fault.session fault.place ++ operation_text fault.op fault.key fault.value))
 
--- what is told of a read fault, as a line
+-- the line of a read fault
 abbrev pub read_fault_text : ReadFault → List ℕ
 read_fault_text fault = read_fault_told fault ++ codes "\n"
 
@@ -85,9 +85,9 @@ abbrev pub verdict_text : Claim → Verdict Rule → List ℕ
 verdict_text k verdict.Accepted = accepted_text k
 verdict_text k (verdict.Rejected rule at) = rejected_text (rule_number rule) at
 
--- what stands in the place of an answer or a verdict
-abbrev pub halt_text : Halt → List ℕ
-halt_text (halt.Row fault) = row_fault_text fault
-halt_text (halt.Reads faults) = unresolved_text faults.items
-halt_text (halt.Text fault) = certificate_fault_text fault
-halt_text halt.NoMemory = codes "memory\n"
+-- what is printed in place of an answer or a verdict
+abbrev pub run_error_text : RunError → List ℕ
+run_error_text (error.Row fault) = row_fault_text fault
+run_error_text (error.Reads faults) = unresolved_text faults.items
+run_error_text (error.Text fault) = certificate_fault_text fault
+run_error_text error.NoMemory = codes "memory\n"

@@ -1,4 +1,4 @@
-//! Faults as JSON, each line made as a whole before a byte of it goes out.
+//! Faults as JSON, each line made as a whole before a byte of it is written.
 ghost use Rattle.std.specs.Prelude.{◌≡◌, IfOk};
 ghost use Rattle.serde_json.specs.View.{view};
 ghost use Rattle.tcc_answer.specs.Json.{json_line};
@@ -26,7 +26,7 @@ fn read_fault_json(alloc: Global, fault: &ReadFault) -> Result<Value, AllocError
     })
 }
 
-/// Read faults as objects.
+/// The objects of read faults.
 struct ReadFaults;
 
 impl Objects<ReadFault> for ReadFaults {

@@ -6,12 +6,12 @@ use crate::status::Status;
 use tcc_cert::CertFaultKind;
 use tcc_rows::RowFaultKind;
 
-/// How a kind of fault is told.
+/// How a kind of fault is reported.
 #[derive(Clone, Copy)]
 pub(crate) struct Told {
     /// The word for it.
     pub word: &'static str,
-    /// How a run ends that it ended.
+    /// How a run ends that was ended by it.
     pub status: Status,
 }
 
@@ -24,7 +24,7 @@ impl Told {
     }
 }
 
-/// How a kind of row fault is told.
+/// How a kind of row fault is reported.
 pub(crate) fn row_told(kind: &RowFaultKind) -> Told
     ensures word { result.word.now ≡ (row_told kind.now).word }
     ensures status { result.status ≡ (row_told kind.now).status }
@@ -50,7 +50,7 @@ pub(crate) fn row_told(kind: &RowFaultKind) -> Told
     }
 }
 
-/// How a kind of fault in the text of a certificate is told.
+/// How a kind of fault in the text of a certificate is reported.
 pub(crate) fn certificate_told(kind: CertFaultKind) -> Told
     ensures word { result.word.now ≡ (certificate_told kind).word }
     ensures status { result.status ≡ (certificate_told kind).status }

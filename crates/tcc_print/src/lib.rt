@@ -1,22 +1,21 @@
-//! What `tcc` prints: the texts and the JSON of faults, verdicts and answers, how they go out, and the statuses of runs.
+//! What `tcc` prints: the texts and the JSON of faults, verdicts and answers, how they are written, and the statuses of runs.
 #![tactic(auto)]
 
-mod halt;
 pub mod json;
 mod kinds;
-pub mod large;
-mod last;
 pub mod notes;
 mod options;
+mod previous;
+mod printable;
 pub mod printing;
+mod run_error;
 pub mod status;
-mod telling;
 pub mod texts;
 mod verdicts;
 
-pub use halt::Halt;
-pub use last::{Last, again};
 pub use options::{Options, RunContext};
+pub use previous::{PreviousAnswer, unchanged};
+pub use printable::{Printable, print_new, print_unchanged};
+pub use run_error::RunError;
 pub use status::Status;
-pub use telling::{Statement, say_again, say_anew};
 pub use verdicts::{accepted_text, rejected_text, verdict_text};

@@ -1,5 +1,5 @@
-//! Notes: what standard error tells a person beside the answers, which is what to mend. Each is made as a whole before a byte of
-//! it goes out; where it can't be made or written it is left out, and nothing else changes.
+//! Notes: what standard error says to a person beside the answers, which is what to mend. Each is made as a whole before a byte
+//! of it is written; where it can't be made or written it is left out, and nothing else changes.
 ghost use Rattle.std.specs.Prelude.{◌≡◌, ◌≢◌, ◌++◌, ℕ, List, IfOk, OnOk, true, length, map, option_map, take};
 ghost use Rattle.std.specs.Io.KnownBytes.{Appends};
 ghost use Rattle.tcc_print.specs.Notes.{AddsAll, AddsNotes, AddsEach, IsNoted, last_note, no_slice_note, order_note, read_note, read_notes, too_few_text};
@@ -26,7 +26,7 @@ use writers::push_writer;
 /// How many read faults have a note.
 const MOST_NOTED: usize = 5;
 
-/// Writes the note that was made. Whether it was written whole: else it couldn't be made, or standard error failed.
+/// Writes the note that was made. Returns whether it was written whole: else it couldn't be made, or standard error failed.
 fn send_note<N: Write>(made: Result<Vec<u8>, NoMemory>, notes: &mut N) -> bool
     ensures noted { (text : List ℕ) → IfOk made (λ bytes. bytes.items ≡ text) → IsNoted (N.contents notes.old) (N.contents notes.new) text }
     ensures whole { (text : List ℕ) → IfOk made (λ bytes. bytes.items ≡ text) → result ≡ true → Appends (N.contents notes.old) (N.contents notes.new) text }
@@ -45,8 +45,8 @@ fn too_few(alloc: Global, required: u32, transactions: usize) -> Result<Vec<u8>,
     Ok(text.into_bytes())
 }
 
-/// Notes of an order, which `init` begins, that it has fewer transactions than are required, where it has. Whether what there
-/// is to note was written whole.
+/// Notes of an order, which `init` begins, that it has fewer transactions than are required, where it has. Returns whether
+/// what there is to note was written whole.
 pub fn note_order<N: Write>(alloc: Global, order: &[u32], required: u32, notes: &mut N) -> bool
     ensures noted { IsNoted (N.contents notes.old) (N.contents notes.new) (order_note required (length order.now)) }
     ensures whole { result ≡ true → Appends (N.contents notes.old) (N.contents notes.new) (order_note required (length order.now)) }
@@ -59,8 +59,8 @@ pub fn note_order<N: Write>(alloc: Global, order: &[u32], required: u32, notes: 
     }
 }
 
-/// Notes of the last answer of a run that it is an order with fewer transactions than are required, where it is one. Whether
-/// what there is to note was written whole.
+/// Notes of the last answer of a run that it is an order with fewer transactions than are required, where it is one. Returns
+/// whether what there is to note was written whole.
 pub fn note_last<N: Write>(
     alloc: Global,
     last: &Option<Answer>,
@@ -97,7 +97,7 @@ fn line_of(alloc: Global, first: &[u8], others: &[&[u8]]) -> Result<Vec<u8>, NoM
     Ok(line)
 }
 
-/// Adds the fields of a record, as they stand in it, if they are known; of a long one what is shown.
+/// Adds the fields of a record as they are in it, if they are known; of a long one what is shown.
 fn push_record(alloc: Global, text: &mut Vec<u8>, fields: &[&[u8]]) -> Result<(), NoMemory>
     ensures { OnOk result (text.new.items ≡ text.old.items ++ record_shown (map (λ field. field.now) fields.now)) }
 {
@@ -108,7 +108,7 @@ fn push_record(alloc: Global, text: &mut Vec<u8>, fields: &[&[u8]]) -> Result<()
     push(text, &[b": "])
 }
 
-/// Adds of which session a field is, where it isn't the first.
+/// Adds the session of a field's record, where the field isn't the first.
 fn push_session(text: &mut Vec<u8>, place: usize, fields: &[&[u8]]) -> Result<(), NoMemory>
     ensures { OnOk result (text.new.items ≡ text.old.items ++ session_shown place (map (λ field. field.now) fields.now)) }
 {
@@ -121,7 +121,7 @@ fn push_session(text: &mut Vec<u8>, place: usize, fields: &[&[u8]]) -> Result<()
     }
 }
 
-/// Adds the field of a record at this place, if it is known, and the session of the record where that is another field.
+/// Adds the field of a record at this index, if it is known, and the session of the record where that is another field.
 fn push_field(text: &mut Vec<u8>, place: usize, fields: &[&[u8]]) -> Result<(), NoMemory>
     ensures { OnOk result (text.new.items ≡ text.old.items ++ field_shown place (map (λ field. field.now) fields.now)) }
 {
@@ -150,7 +150,7 @@ fn push_shown(
 }
 
 /// The note of a row fault in an input of these limits: what its record has, of which these are the fields, if they are known,
-/// and what stands there instead.
+/// and what is expected there.
 fn row(
     alloc: Global,
     limits: Limits,
@@ -172,8 +172,8 @@ fn row(
     Ok(text)
 }
 
-/// Notes of the fault of a record in an input of these limits, whose fields are these, if they are known, what stands there
-/// instead. Of refused memory nothing is noted. Whether what there is to note was written whole.
+/// Notes what a record with a fault has and what is expected there, in an input of these limits. These are the record's fields,
+/// if they are known. Of refused memory nothing is noted. Returns whether what there is to note was written whole.
 pub fn note_row<N: Write>(
     alloc: Global,
     limits: Limits,
@@ -210,7 +210,7 @@ fn read<B: Bounds>(
     Ok(text)
 }
 
-/// Of many read faults those that have a note; of a few all.
+/// The read faults that have a note: the first ones.
 fn first_noted(faults: &[ReadFault]) -> &[ReadFault]
     ensures { result.now ≡ take 5 faults.now }
 {
@@ -221,8 +221,8 @@ fn first_noted(faults: &[ReadFault]) -> &[ReadFault]
     }
 }
 
-/// Notes of the first of the read faults of the snapshot which write each of them is about. Whether all of these were written
-/// whole.
+/// Notes of the first of the read faults of the snapshot which write each of them is about. Returns whether all of these notes
+/// were written whole.
 pub fn note_reads<B: Bounds, N: Write>(
     alloc: Global,
     snapshot: &SnapshotWithin<B>,
@@ -242,7 +242,7 @@ pub fn note_reads<B: Bounds, N: Write>(
     whole
 }
 
-/// Notes that no slice is within the small limits. Whether that was written whole.
+/// Notes that no slice is within the small limits. Returns whether that was written whole.
 pub fn note_no_slice<N: Write>(alloc: Global, notes: &mut N) -> bool
     ensures noted { IsNoted (N.contents notes.old) (N.contents notes.new) no_slice_note }
     ensures whole { result ≡ true → Appends (N.contents notes.old) (N.contents notes.new) no_slice_note }

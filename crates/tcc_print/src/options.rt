@@ -13,11 +13,11 @@ pub struct Options {
     pub workers: Workers,
     /// Each in one line of JSON.
     pub json: bool,
-    /// An order of fewer transactions than these is no success: 0 asks for none. No text depends on it.
+    /// An order of fewer transactions than this is no success; 0 requires none. No text depends on it.
     pub required: u32,
 }
 
-/// A run of explain, as it is lent to its stages: what it is asked for, and what it works with.
+/// A run of explain, as its stages borrow it: what it is asked for, and what it works with.
 #[derive(Drop)]
 pub struct RunContext<'a, T, G> {
     pub rt: &'a T,

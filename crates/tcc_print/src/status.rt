@@ -1,15 +1,15 @@
-//! How a run ends, and the number that tells it.
+//! How a run ends, and the code that says so.
 ghost use Rattle.std.specs.Prelude.{◌≡◌, length};
-ghost use Rattle.tcc_print.specs.Statuses.{answer_status, certificate_status, code_of, halt_status, last_status, order_status, row_status, verdict_status};
+ghost use Rattle.tcc_print.specs.Statuses.{answer_status, certificate_status, code_of, run_error_status, last_status, order_status, row_status, verdict_status};
 
-use crate::halt::Halt;
 use crate::kinds::{certificate_told, row_told};
+use crate::run_error::RunError;
 use tcc_answer::Answer;
 use tcc_cert::CertFaultKind;
 use tcc_rows::RowFaultKind;
 use tcc_rules::Verdict;
 
-/// How a run ended; the process passes it on as its status. README and the man page have these words.
+/// How a run ended; its code is the status of the process. README and the man page have these words.
 #[derive(Clone, Copy, Debug, PartialEq, Eq)]
 pub enum Status {
     /// Consistent; accepted; help or version asked for.
@@ -37,7 +37,7 @@ pub enum Status {
 }
 
 impl Status {
-    /// The number that the process ends with.
+    /// The code that the process ends with.
     pub fn code(self) -> u8
         ensures { result ≡ code_of self }
     {
@@ -67,7 +67,7 @@ pub fn order_status(order: &[u32], required: u32) -> Status
     }
 }
 
-/// How a run ends that gave this answer, where so many transactions are required of an order.
+/// How a run ends that gave this answer, where an order has to have this number of transactions.
 pub fn answer_status(answer: &Answer, required: u32) -> Status
     ensures { result ≡ answer_status required answer.now }
 {
@@ -77,7 +77,7 @@ pub fn answer_status(answer: &Answer, required: u32) -> Status
     }
 }
 
-/// How a run ends whose last answer this is; none stands for read faults.
+/// How a run ends whose last answer this is; `None` is for read faults.
 pub fn last_status(answer: &Option<Answer>, required: u32) -> Status
     ensures { result ≡ last_status required answer.now }
 {
@@ -97,14 +97,14 @@ pub fn verdict_status<R: Drop>(verdict: Verdict<R>) -> Status
     }
 }
 
-/// How a run ends that a row fault ended.
+/// How a run ends that was ended by a row fault.
 pub fn row_status(kind: &RowFaultKind) -> Status
     ensures { result ≡ row_status kind.now }
 {
     row_told(kind).status
 }
 
-/// How a run ends that a fault in the text of a certificate ended.
+/// How a run ends that was ended by a fault in the text of a certificate.
 pub fn certificate_status(kind: CertFaultKind) -> Status
     ensures { result ≡ certificate_status kind }
 {
@@ -112,13 +112,13 @@ pub fn certificate_status(kind: CertFaultKind) -> Status
 }
 
 /// How a run ends that has no answer or no verdict.
-pub fn halt_status(halt: &Halt) -> Status
-    ensures { result ≡ halt_status halt.now }
+pub fn run_error_status(error: &RunError) -> Status
+    ensures { result ≡ run_error_status error.now }
 {
-    match halt {
-        Halt::Row(fault) => row_status(&fault.kind),
-        Halt::Reads(_) => Status::ReadFaults,
-        Halt::Text(fault) => certificate_status(fault.kind),
-        Halt::NoMemory => Status::Memory,
+    match error {
+        RunError::Row(fault) => row_status(&fault.kind),
+        RunError::Reads(_) => Status::ReadFaults,
+        RunError::Text(fault) => certificate_status(fault.kind),
+        RunError::NoMemory => Status::Memory,
     }
 }

@@ -1,4 +1,4 @@
-//! The texts of faults, each made as a whole before a byte of it goes out.
+//! The texts of faults, each made as a whole before a byte of it is written.
 ghost use Rattle.std.specs.Prelude.{◌≡◌, ◌++◌, IfOk, OnOk, length, flat_map};
 ghost use Rattle.tcc_print.specs.Texts.{certificate_fault_text, certificate_word, operation_text, read_fault_text, read_fault_told, read_word, row_fault_text, row_word, unresolved_text};
 
@@ -45,7 +45,7 @@ pub fn read_word(kind: ReadFaultKind) -> &'static str
     }
 }
 
-/// Adds ` op I KEY VALUE`, what is told of an operation.
+/// Adds ` op I KEY VALUE`, by which an operation is reported.
 pub fn push_operation(
     alloc: Global,
     text: &mut Vec<u8>,
@@ -59,7 +59,7 @@ pub fn push_operation(
     push(text, &[operation.as_bytes()])
 }
 
-/// Adds what is told of a read fault, without the end of its line.
+/// Adds a read fault, without the end of its line.
 pub(crate) fn push_told(
     alloc: Global,
     text: &mut Vec<u8>,

@@ -138,7 +138,7 @@ module _ (all : List Stand) (table : List ℕ → ℕ → Option Writer) (agrees
         | false ↦ refl
       ]
 
-  -- the fault of an operation that is found is its fault
+  -- if the fault of an operation is found, it is its fault
   pub fault_agrees : (n : Numbered) (before : List Op) (op : Op) (after : List Op)
       → let one : Site = record { stand = n.stand; before = before; op = op; after = after } in
       fault_found table n one ≡ fault_at all one
@@ -152,7 +152,7 @@ module _ (all : List Stand) (table : List ℕ → ℕ → Option Writer) (agrees
   faults_agree_in n before [] = refl
   faults_agree_in n before (op ∷ after) = λ i. cons_option (fault_agrees n before op after i) (faults_agree_in n (before ++ op ∷ []) after i)
 
-  -- the faults found are the faults
+  -- the faults found are the faults by the definition
   pub faults_agree : (number : ℕ) (some : List Stand)
       → flat_map (faults_found table) (numbered_from number some) ≡ filter_map (fault_at all) (sites some)
   faults_agree number [] = refl

@@ -1,4 +1,4 @@
--- What stands in order by the indices of keys does so by their names.
+-- What is in order by the indices of keys is in order by their names.
 use Rattle.std.proofs.Common.{◌≡◌, ℕ, ◌<◌, Bool, true, false, cond, List, [], ◌∷◌, ◌++◌, None, length, map, filter_map, drop, All, inl, inr, refl, ap, sym, subst}
 use Rattle.std.proofs.Common.{◌∙◌}
 use Rattle.std.specs.Prelude.{option_to_list}
@@ -28,7 +28,7 @@ use Rattle.tcc_reads.specs.private.Verdicts.{read_in, source_in}
 use Rattle.tcc_reads.proofs.Indices.{stands_at}
 use Rattle.tcc_reads.proofs.StoredEntries.{All-sorted_once}
 
--- items that a function takes to others in the same order: in order, each once, they are taken to those in order
+-- a function that keeps the order of items: sorted items without repeats are mapped to sorted images without repeats
 module _ {A B : Type 0} (R : A → A → Ordering) (S : B → B → Ordering) (f : A → B) (P : A → Type 0)
     (alike : (a b : A) → P a → P b → S (f a) (f b) ≡ R a b) where
   mapped_insert : (k : A) (xs : List A) → P k → All P xs → map f (insert_key R xs k) ≡ insert_key S (map f xs) (f k)
@@ -117,7 +117,7 @@ module _ (keys : List (List ℕ)) where
     more_within judgement is before =
         subst (All BelowRead) (sym is) (All-append BelowRead old (option_to_list (read_in k judgement)) before (read_within judgement))
 
-    -- where only those that pass are taken
+    -- if only the reads that pass are kept
     pub kept_named : (b : Bool) (judgement : OpJudgement) → new ≡ old ++ option_to_list (cond b (read_in k judgement) None)
         → named keys new ≡ named keys old ++ option_to_list (cond b (source_in op judgement) None)
     kept_named true judgement is = more_named judgement is

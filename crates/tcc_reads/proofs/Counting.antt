@@ -17,7 +17,7 @@ use Rattle.tcc_reads.specs.private.Numbers.{next_number, numbered_from}
 pub item_at : {X : Type 0} (xs : List X) (i : ℕ) (x : X) → i < length xs → slice_get xs i ≡ Some x → drop i xs ≡ x ∷ drop (i + 1) xs
 item_at xs i x within is = drop_more xs i x within ∙ ap (λ y. y ∷ drop (i + 1) xs) (get_or_from_slice_get xs i x x is)
 
--- the sessions from one of this name on
+-- the sessions from the one with this name on
 pub named_at : (s : Sessions) (i : ℕ) (name : List ℕ) → i < length (finite.entries s)
     → Some name ≡ option_map (λ named. named.0) (slice_get (finite.entries s) i)
     → drop i (finite.entries s) ≡ (name, finished_at s i) ∷ drop (i + 1) (finite.entries s)
@@ -51,7 +51,7 @@ pub length-numbered_from : (number : ℕ) (all : List Stand) → length (numbere
 length-numbered_from number [] = refl
 length-numbered_from number (stand ∷ later) = ap suc (length-numbered_from (next_number number stand) later)
 
--- of a session, all stands have its index
+-- all transactions of a session have its index
 stands_in-session : (session : ℕ) (name : List ℕ) (place : ℕ) (txns : List Transaction) (bound : ℕ) → session < bound
     → All (λ stand. stand.session < bound) (stands_in session name place txns)
 stands_in-session session name place [] bound below = All-nil (λ (stand : Stand). stand.session < bound)

@@ -26,7 +26,7 @@ use Rattle.tcc_reads.proofs.Sourcing.{sourced, entries_agree}
 use Rattle.tcc_reads.proofs.Traces.{traces_agree}
 use Rattle.tcc_reads.proofs.StoredEntries.{entry, few_nodes, stored}
 
--- names, table, nodes and faults are as the resolver makes them
+-- names, table, nodes and faults as the resolver makes them
 pub record AreFindings (named : List (List ℕ × List Transaction)) (names : List (List ℕ)) (table : Writes) (nodes : List Entry) (faults : List ReadFault)
     : Type 0 where
   pub names_are : names ≡ map (λ part. part.0) named
@@ -77,7 +77,7 @@ module _ (named : List (List ℕ × List Transaction)) (names : List (List ℕ))
   abbrev as_history : List (List ℕ) → List Entry → History
   as_history ns es = record { sessions = ns; entries = es }
 
-  -- without faults they are the history of a snapshot with these sessions, which then has no faults either
+  -- if there are no faults, they are the history of a snapshot with these sessions, which has no faults either
   pub history_of_findings : faults ≡ [] → (s : Sessions) → entries s ≡ named → (read_faults s ≡ []) × (as_history names nodes ≡ history s)
   history_of_findings none s is = (
     ap (λ es. faults_of (stands_from 0 es)) is ∙ sym faults_of_findings ∙ none,
@@ -85,11 +85,11 @@ module _ (named : List (List ℕ × List Transaction)) (names : List (List ℕ))
         ∙ ap (λ es. history_of (map (λ part. part.0) es) (stands_from 0 es)) (sym is),
   )
 
-  -- faults that are found are those of a snapshot with these sessions
+  -- if faults are found, they are those of a snapshot with these sessions
   pub refusal_of_findings : (faults ≡ [] → ⊥) → (s : Sessions) → entries s ≡ named → (faults ≡ read_faults s) × (faults ≡ [] → ⊥)
   refusal_of_findings some s is = (faults_of_findings ∙ ap (λ es. faults_of (stands_from 0 es)) (sym is), some)
 
-  -- there are so many transactions and so many sessions
+  -- there are at most as many transactions as the sessions have, and one more
   pub few_findings : faults ≡ [] → length nodes ≤ sum_by (λ part. length part.1) named + 1
   few_findings none = few_nodes named external_reads nodes (nodes_of_findings none)
 

@@ -1,4 +1,4 @@
--- At which index of a list of keys a key stands.
+-- The index of a key in a list of keys.
 use Rattle.std.proofs.Common.{◌≡◌, ℕ, zero, suc, ◌+◌, ◌<◌, ◌≤◌, Bool, true, false, cond, ◌||◌, List, [], ◌∷◌, length, get_or, drop}
 use Rattle.std.proofs.Common.{inl, inr, None, Some, Ok, Err, refl, ap, sym, ◌∙◌, arith}
 use Rattle.std.specs.Prelude.{◌==◌, unwrap_or}
@@ -61,7 +61,7 @@ no_earlier p from (x ∷ xs) k is = go (p x) is (no_earlier p (from + 1) xs k)
     go true e rest = let same : from ≡ k = cc in omega arith
     go false e rest = let later = rest e in omega arith
 
--- keys of one index are one
+-- keys with one index are equal
 one_name : (keys : List (List ℕ)) (from k : ℕ) (x y : List ℕ)
     → position_from (bytes_eq x) from keys ≡ Some k → position_from (bytes_eq y) from keys ≡ Some k → x ≡ y
 one_name [] from k x y at there = absurd cc
@@ -78,7 +78,7 @@ one_name (key ∷ keys) from k x y at there = go (bytes_eq x key) refl (bytes_eq
         let same : from ≡ k = cc in let later = no_earlier (bytes_eq x) (from + 1) keys k at in absurd (omega arith)
     go false e false f at there rest = rest at there
 
--- ---- keys that are there
+-- ---- keys that are in the list
 
 pub index_is : (keys : List (List ℕ)) (x : List ℕ) → has_key keys x ≡ true → index_of keys x ≡ Some (key_index keys x)
 index_is keys x there = let w = some_position (bytes_eq x) 0 keys there in w.1 ∙ ap Some (sym (ap (λ o. unwrap_or o 0) w.1))
@@ -100,7 +100,7 @@ other_key keys key x there none = false_from_ne_true (bytes_eq key x) (λ e.
     let found : index_of keys x ≡ Some (key_index keys key) = ap (index_of keys) (sym (same_name key x e)) ∙ index_is keys key there in
     let apart : None ≡ Some (key_index keys key) = sym none ∙ found in cc)
 
--- what comes in a list behind an item of it
+-- an item of a list, and what comes after it
 pub behind : {X : Type 0} (xs : List X) (at : ℕ) (x : X) (later : List X) → drop at xs ≡ x ∷ later
     → (at < length xs) × ((d : X) → get_or xs at d ≡ x) × (drop (at + 1) xs ≡ later)
 behind [] zero x later is = absurd cc
@@ -111,7 +111,7 @@ behind (y ∷ xs) (suc at) x later is =
     let next : suc at + 1 ≡ suc (at + 1) = omega arith in
     (omega (arith, rest.0), rest.1, ap (λ k. drop k (y ∷ xs)) next ∙ rest.2)
 
--- a key is written again where its index comes again
+-- a key is written again if its index occurs again
 pub written_again : (keys : List (List ℕ)) (key : List ℕ) (ops : List Op) → has_key keys key ≡ true → AreKnownIn keys ops
     → list_any (λ k. k == key_index keys key) (indices_put keys ops) ≡ list_any (puts_at key) ops
 written_again keys key [] there known = refl
@@ -119,7 +119,7 @@ written_again keys key (Get other value ∷ later) there known = written_again k
 written_again keys key (Put other value ∷ later) there known =
     (λ i. same_index keys other key (key_index keys key) known.0 (index_is keys key there) i || written_again keys key later there known.1 i)
 
--- ---- found by halving
+-- ---- found by binary search
 
 sorted_names : (names : List (List ℕ)) → IsStrictlySortedBy name_cmp names → IsSortedBy (λ a b. is_lt (name_cmp a b)) names
 sorted_names names sorted k d h i =
@@ -142,7 +142,7 @@ one_place names i j d sorted h k same = elim (cases_order i j) [
   ]
 ]
 
--- a key that stands at a number has it as its index
+-- a key at a number has it as its index
 pub numbered_key : (names : List (List ℕ)) (x : List ℕ) (i : ℕ) → IsStrictlySortedBy name_cmp names → IsNumber names x i → index_of names x ≡ Some i
 numbered_key names x i sorted number =
     let there : 0 + i ≡ i = omega arith in
@@ -179,7 +179,7 @@ position_reached {X} p from (x ∷ xs) k is = go (p x) refl is (position_reached
     go true e is rest = let same : from ≡ k = cc in (0, omega (arith, same), omega arith, λ d. e)
     go false e is rest = let w = rest is in (suc w.0, omega (arith, w.1), omega (arith, w.2), w.3)
 
--- a key that is there stands at its index
+-- a key of the list is at its index
 pub stands_at : (keys : List (List ℕ)) (x : List ℕ) → has_key keys x ≡ true → IsNumber keys x (key_index keys x)
 stands_at keys x there =
     let w = position_reached (bytes_eq x) 0 keys (key_index keys x) (index_is keys x there) in

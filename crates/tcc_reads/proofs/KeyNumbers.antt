@@ -1,4 +1,4 @@
--- Numbers of keys: where they are parted, put in other words, and those of all operations of a snapshot.
+-- Numbers of keys: split, in terms of other numbers, and those of all operations of a snapshot.
 use Rattle.std.proofs.Common.{◌≡◌, ℕ, zero, suc, ◌+◌, ◌<◌, ◌≤◌, Bool, true, List, [], ◌∷◌, ◌++◌, length, get_or, take, drop, map, flat_map, refl, ap, sym, subst}
 use Rattle.std.proofs.Common.{◌∙◌, arith, length-append}
 use Rattle.std.specs.Prelude.{All, unwrap_or}
@@ -18,7 +18,7 @@ use Rattle.tcc_txn.specs.declared.op.Op.{Op}
 use Rattle.tcc_txn.specs.declared.op.Op.TheVariants.{Get, Put}
 use Rattle.tcc_reads.specs.Sites.{Stand, stands, stands_in, stands_from}
 use Rattle.tcc_reads.specs.Sources.{name_cmp}
-use Rattle.tcc_reads.specs.declared.standing.Place.{Place}
+use Rattle.tcc_reads.specs.declared.located.Place.{Place}
 use Rattle.tcc_reads.specs.private.Numbers.{Numbered, next_number, numbered, numbered_at, numbered_from}
 use Rattle.tcc_reads.specs.private.KeyIndices.{has_key, key_index, keys_used, AreKnown, AreKnownIn}
 use Rattle.tcc_reads.proofs.Indices.{numbered_key}
@@ -58,7 +58,7 @@ number_of keys (m ∷ ns) (o ∷ ops) are zero d op inside is =
 number_of keys (m ∷ ns) (o ∷ ops) are (suc i) d op inside is =
     number_of keys ns ops (behind_first keys m ns (op_key o) (map op_key ops) are) i d op (omega (arith, inside)) is
 
--- the numbers of the keys in front, and of those behind
+-- the numbers of the first keys, and of those after them
 pub parted : (keys : Names) (ns : List ℕ) (xs ys : Names) → AreNumbers keys ns (xs ++ ys)
     → AreNumbers keys (take (length xs) ns) xs × AreNumbers keys (drop (length xs) ns) ys
 parted keys ns [] ys are = (none_numbered keys, are)
@@ -67,7 +67,7 @@ parted keys (n ∷ ns) (x ∷ xs) ys are =
     let later = parted keys ns xs ys (behind_first keys n ns x (xs ++ ys) are) in
     (one_more keys n (take (length xs) ns) x xs (first_number keys n ns x (xs ++ ys) are) later.0, later.1)
 
--- ---- keys that have numbers are there
+-- ---- keys that have numbers are in the list
 
 any_at : (p : List ℕ → Bool) (xs : Names) (i : ℕ) (d : List ℕ) → i < length xs → p (get_or xs i d) ≡ true → list_any p xs ≡ true
 any_at p [] i d inside here = absurd (omega (arith, inside))
@@ -118,7 +118,7 @@ ranked names keys ranks ns xs are by = record { within = inside ns are.within; n
         let later = same ms (λ k d l. within (suc k) d (omega (arith, l))) in
         λ i. one i ∷ later i
 
--- a name of a list is there
+-- a name of a list is in it
 pub listed_there : (names : Names) (i : ℕ) (x : List ℕ) → i < length names → x ≡ get_or names i x → has_key names x ≡ true
 listed_there names i x inside is = any_at (bytes_eq x) names i x inside (ap (bytes_eq x) (sym is) ∙ itself x)
 

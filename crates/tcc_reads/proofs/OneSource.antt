@@ -1,4 +1,4 @@
--- Where nothing is faulty each external read has one source, and that is another transaction.
+-- In a snapshot without faults each external read has one source, and that is another transaction.
 use Rattle.std.proofs.Common.{ℕ, zero, suc, ◌≡◌, ◌≢◌, ◌<◌, ◌+◌, ◌⊎◌, inl, inr, Bool, true, false, cond, not, List, [], ◌∷◌, ◌++◌, length}
 use Rattle.std.proofs.Common.{get_or, filter_map, Option, None, Some, option_map, is_none, unwrap_or, append_assoc, refl, sym, ap, subst}
 use Rattle.std.proofs.Common.{◌∙◌, arith}
@@ -142,7 +142,7 @@ module _ (s : Sessions) (none : read_faults s ≡ []) where
   quiet : (site : Site) → Contains (sites (stands s)) site → kind_at (stands s) site site.op ≡ None
   quiet site there = no_map _ (kind_at (stands s) site site.op) (none_given (fault_at (stands s)) (sites (stands s)) site none there)
 
-  -- the writer of a value stands in the transaction that shows it
+  -- the writer of a value is in the transaction that shows it
   abbrev HasWriter : Stand → List ℕ → ℕ → Type 0
   HasWriter t x v = (first : Site) × (writer (stands s) x v ≡ Some first) × (is_same_transaction first.stand t ≡ true)
 
@@ -174,7 +174,7 @@ module _ (s : Sessions) (none : read_faults s ≡ []) where
           (subst (λ (z : ℕ). write_kind one (writer (stands s) x z) ≡ None) value_is
           (subst (λ (z : List ℕ). write_kind one (writer (stands s) z value) ≡ None) key_is q))
 
-  -- the writer of a value that is read stands in another transaction, which is committed, and is its last write there
+  -- the writer of a value that is read is in another transaction, which is committed, and is the last write of the key there
   record IsReadFrom (t : Stand) (x : List ℕ) (v : ℕ) (first : Site) : Type 0 where
     found : writer (stands s) x v ≡ Some first
     ended : first.stand.txn.committed ≡ true
@@ -236,7 +236,7 @@ module _ (s : Sessions) (none : read_faults s ≡ []) where
           (sym (ap (λ (b : Bool). cond b (read_kind (stands s) site key value (visible_write key site.before)) None)
           (ap (λ (z : Stand). z.txn.committed) is ∙ ended)) ∙ q)
 
-  -- what the writer that a read has its value from gives: its transaction shows the value
+  -- what follows from the writer that a read has its value from: its transaction shows the value
   writer_shows : (t : Stand) (x : List ℕ) (v : ℕ) (first : Site) → IsReadFrom t x v first → Contains (stands s) first.stand × (shows x v first.stand ≡ true)
   writer_shows t x v first r =
       let w = found_there (λ site. puts x v site.op) (sites (stands s)) first r.found in

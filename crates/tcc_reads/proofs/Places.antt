@@ -5,7 +5,7 @@ use Rattle.std.proofs.lemmas.List.{append_assoc, map-append}
 use Rattle.std.proofs.lemmas.Option.{slice_get-get_or}
 use Rattle.tcc_txn.specs.Snapshots.{Sessions, finished_at}
 use Rattle.tcc_txn.specs.Transactions.{Transaction}
-use Rattle.tcc_reads.specs.declared.standing.Place.{Place}
+use Rattle.tcc_reads.specs.declared.located.Place.{Place}
 use Rattle.tcc_reads.specs.Sites.{Stand, stands_in}
 use Rattle.tcc_reads.specs.private.Numbers.{Numbered, name_in, numbered, numbered_at, numbered_from}
 use Rattle.tcc_reads.proofs.Counting.{named_at}

@@ -16,7 +16,7 @@ then_tied Less b = refl
 then_tied Equal b = refl
 then_tied Greater b = refl
 
--- pairs tie where both parts are the same
+-- pairs tie if both parts are equal
 pub pairs_tie : (a b : List ℕ × ℕ) → is_eq (pair_cmp a b) ≡ (bytes_eq a.0 b.0 && (a.1 == b.1))
 pairs_tie a b = then_tied (name_cmp a.0 b.0) (nat_cmp a.1 b.1) ∙ (λ i. names_tie a.0 b.0 i && numbers_tie a.1 b.1 i)
 

@@ -1,4 +1,4 @@
--- Facts of each item of a list and of each two in their order; and where the transactions of a snapshot stand.
+-- Facts of each item of a list and of each two in their order; and the order of the transactions of a snapshot.
 use Rattle.std.proofs.Common.{ℕ, zero, suc, ◌≡◌, ◌<◌, ◌≤◌, ◌+◌, Bool, true, false, List, [], ◌∷◌, ◌++◌, length, map, get_or, cond, refl, arith}
 use Rattle.std.specs.Prelude.{filter}
 use Rattle.std.specs.FinMap.{entries}
@@ -63,7 +63,7 @@ rises_at R (x ∷ xs) i zero d less l rises = absurd (omega arith)
 rises_at R (x ∷ xs) zero (suc j) d less l rises = each_at (R x) xs j d (omega arith) rises.0
 rises_at R (x ∷ xs) (suc i) (suc j) d less l rises = rises_at R xs i j d (omega arith) (omega arith) rises.1
 
--- ---- where transactions stand
+-- ---- the places of transactions
 
 abbrev pub IsLater : Stand → Stand → Type 0
 IsLater x y = x.session ≡ y.session → x.place < y.place
@@ -161,7 +161,7 @@ module _ (named : List (List ℕ × List Transaction)) (reads : Stand → List (
       rises_map (λ (a b : Entry). a.owner ≡ b.owner → a.place < b.place) entry (committed (stands_from 0 named))
       (rises_filter IsLater is_committed (stands_from 0 named) (from_order 0 named))
 
-  -- the transactions of some sessions stand by session and by place, whatever they read
+  -- the transactions of some sessions are in order by session and by place, whatever they read
   pub by_sessions : IsBySession (initial ∷ list)
   by_sessions m zero less below = absurd (omega arith)
   by_sessions zero (suc k) less below = (omega arith, λ same. each_at (λ (e : Entry). 1 ≤ e.place) list k initial (omega arith) first)
@@ -170,6 +170,6 @@ module _ (named : List (List ℕ × List Transaction)) (reads : Stand → List (
     rises_at (λ (a b : Entry). a.owner ≡ b.owner → a.place < b.place) list i k initial (omega arith) (omega arith) placed,
   )
 
--- the transactions of a snapshot stand by session and place
+-- the transactions of a snapshot are in order by session and place
 pub by_session : (s : Sessions) → IsBySession (history s).entries
 by_session s = by_sessions (entries s) (reads_of (stands s))

@@ -1,4 +1,4 @@
--- Sorting and dropping repeats gives what inserting in order gives.
+-- Sorting and removing repeats gives what inserting in order gives.
 use Rattle.std.proofs.Common.{◌≡◌, Bool, true, false, cond, ◌||◌, List, [], ◌∷◌, refl, ap, sym, ◌∙◌}
 use Rattle.std.proofs.lemmas.Map.Lookups.{btree_set_from_contains}
 use Rattle.std.proofs.lemmas.Map.Views.{tells_apart}
@@ -21,7 +21,7 @@ or_same false b c e = refl
 or_same true false c e = cc
 
 module _ {K : Type 0} {R : K → K → Ordering} (o : IsTotalOrder R) where
-  -- keys above a key, of which another is below
+  -- keys above a key are above each key below it
   above : (k x : K) → R k x ≡ Less → (xs : List K) → AllByRecursion (λ y. R x y ≡ Less) xs → AllByRecursion (λ y. R k y ≡ Less) xs
   above k x below [] all = tt
   above k x below (y ∷ ys) all = (o.trans k x y below all.0, above k x below ys all.1)
@@ -52,7 +52,7 @@ module _ {K : Type 0} {R : K → K → Ordering} (o : IsTotalOrder R) where
   once_sorted (x ∷ xs) = inserted_sorted x (sorted_once R xs) (once_sorted xs)
 
   module _ (exact : TellsApart R) where
-    -- what is among keys with one more
+    -- whether some key passes, after one more key
     pub any_inserted : (p : K → Bool) (k : K) (xs : List K) → list_any p (insert_key R xs k) ≡ (p k || list_any p xs)
     any_inserted p k [] = refl
     any_inserted p k (x ∷ xs) =
@@ -62,7 +62,7 @@ module _ {K : Type 0} {R : K → K → Ordering} (o : IsTotalOrder R) where
           | Greater ↦ λ is. ap (λ b. p x || b) (any_inserted p k xs) ∙ or_swap (p x) (p k) (list_any p xs)
         ]) refl
 
-    -- in order, each once, are the same items
+    -- the sorted items without repeats are the same items
     pub any_once : (p : K → Bool) (xs : List K) → list_any p (sorted_once R xs) ≡ list_any p xs
     any_once p [] = refl
     any_once p (x ∷ xs) = any_inserted p x (sorted_once R xs) ∙ ap (λ b. p x || b) (any_once p xs)

@@ -1,4 +1,4 @@
--- Where nothing is faulty, the sources found are the sources.
+-- In a snapshot without faults, the sources found are the sources by the definition.
 use Rattle.std.proofs.Common.{◌≡◌, ℕ, ◌+◌, Bool, true, false, cond, not, ◌&&◌, ◌||◌, List, [], ◌∷◌, ◌++◌, length, map, filter}
 use Rattle.std.proofs.Common.{filter_map, flat_map, Option, None, Some, option_map, unwrap_or, refl, ap, sym, ◌∙◌, is_none}
 use Rattle.std.proofs.Common.{nat_eq}
@@ -49,7 +49,7 @@ never_shown x v (Put key value ∷ later) none =
     let parts = or_parts (bytes_eq key x && (value == v)) (list_any (puts x v) later) none in
     has-later v value (bytes_eq key x) (visible_write x later) (never_shown x v later parts.1) parts.0
 
--- where a key isn't written nothing is visible
+-- if a key isn't written, nothing is visible there
 nothing_visible : (x : List ℕ) (ops : List Op) → list_any (puts_at x) ops ≡ false → visible_write x ops ≡ None
 nothing_visible x [] none = refl
 nothing_visible x (Get key value ∷ later) none = ap (λ o. option_or o None) (nothing_visible x later none)
@@ -152,7 +152,7 @@ sourced number (stand ∷ later) x v first m found is last =
             ∙ sym (ap (λ b. position_from (shows x v) (cond b (number + 1) number) (committed later)) gone)
             ∙ next
 
--- what the source of an external read is
+-- an external read, by key and source
 abbrev pub with_source : List Stand → List ℕ × ℕ → List ℕ × ℕ
 with_source all r = (r.0, source all r.0 r.1)
 
@@ -172,7 +172,7 @@ no_kind stand position op Silent e = refl
 module _ (all : List Stand) (table : List ℕ → ℕ → Option Writer)
     (known : (x : List ℕ) (v : ℕ) (first : Writer) (m : ℕ) → table x v ≡ Some first → first.number ≡ Some m → first.last ≡ true
     → position_from (shows x v) 1 (committed all) ≡ Some m) where
-  -- of a read of another value than 0
+  -- for a read of another value than 0
   found_source : (n : Numbered) (key : List ℕ) (value : ℕ) → kind_in (read_judgement n (table key value)) ≡ None
       → source_in (Get key value) (read_judgement n (table key value)) ≡ Some (key, unwrap_or (position_from (shows key value) 1 (committed all)) 0)
   found_source n key value none = by_found (table key value) refl none

@@ -1,17 +1,17 @@
--- One transaction after the other, and what is found out of it.
+-- One transaction after another, and what is found in it.
 use Rattle.std.proofs.Common.{◌≡◌, ℕ, ◌+◌, ◌<◌, Bool, true, false, cond, List, [], ◌∷◌, ◌++◌, length, get_or, drop, map, filter, flat_map, refl, ap, sym, subst, ◌∙◌}
 use Rattle.std.proofs.Common.{append-nil, append_assoc}
 use Rattle.tcc_txn.specs.Snapshots.{Sessions}
 use Rattle.tcc_reads.specs.History.{Entry}
 use Rattle.tcc_reads.specs.declared.fault.ReadFault.{ReadFault}
-use Rattle.tcc_reads.specs.declared.standing.Place.{Place}
+use Rattle.tcc_reads.specs.declared.located.Place.{Place}
 use Rattle.tcc_reads.specs.declared.writers.Write.{Write}
 use Rattle.tcc_reads.specs.private.Numbers.{Numbered, numbered, numbered_at}
 use Rattle.tcc_reads.specs.private.Verdicts.{Writes, AreOwn, all_writes, entries_found, entry_found, faults_found, writes_of}
 use Rattle.tcc_reads.specs.private.Tracings.{entries_traced, entry_traced}
 use Rattle.tcc_reads.proofs.Ties.{read_at}
 
--- the transaction at an index, and those behind it
+-- the transaction at an index, and those after it
 module _ (s : Sessions) (places : List Place) (i : ℕ) (d : Place) (within : i < length places) (one : Numbered) (is : one ≡ numbered_at s (get_or places i d)) where
   abbrev later : List Numbered
   later = numbered s (drop (i + 1) places)
@@ -25,7 +25,7 @@ module _ (s : Sessions) (places : List Place) (i : ℕ) (d : Place) (within : i 
   pub own_later : (table : Writes) → AreOwn table (numbered s (drop i places)) → AreOwn table later
   own_later table own = (subst (AreOwn table) ahead own).1
 
-  -- what a list of parts of each has taken in, and what is ahead
+  -- what was taken from the first parts, and what is still ahead
   taken : {X : Type 0} (parts : List Numbered → List X) → ((n : Numbered) (ns : List Numbered) → parts (n ∷ ns) ≡ parts (n ∷ []) ++ parts ns)
       → (done new whole : List X) → new ≡ done ++ parts (one ∷ []) → done ++ parts (numbered s (drop i places)) ≡ whole → new ++ parts later ≡ whole
   taken {X} parts split done new whole more given =

@@ -110,7 +110,7 @@ module _ (named : List (List ℕ × List Transaction)) (reads : Stand → List (
     counted : length nodes ≡ length (committed all) + 1
     counted = ap length are_nodes ∙ omega (arith, length-map (committed all) entry)
 
-    -- there are so many transactions
+    -- there are at most as many transactions as the sessions have, and one more
     pub few_nodes : length nodes ≤ sum_by (λ part. length part.1) named + 1
     few_nodes = omega (arith, counted, length-filter is_committed all, length-stands_from 0 named)
 

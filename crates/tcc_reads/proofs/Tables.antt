@@ -38,7 +38,7 @@ latest_write x ops left d op within is =
     ∙ visible_write-push x (take (length ops - left - 1) ops) op
     ∙ ap (λ k. option_or (value_put x op) (visible_write x (take k ops))) next
 
--- an own write is silent
+-- an own write says nothing about other transactions
 pub own_is_silent : (table : Writes) (n : Numbered) (before after : List Op) (op : Op) (position : ℕ)
     → length before + 1 ≡ position → AreOwnIn table n before (op ∷ after) → IsOwn table n position op
 own_is_silent table n before after (Get key value) position counted own = tt
@@ -52,7 +52,7 @@ own_after : (table : Writes) (n : Numbered) (before after : List Op) (op : Op)
 own_after table n before after (Get key value) own = own
 own_after table n before after (Put key value) own = own.1
 
--- the operation at an index taken in: what is known of those from there on
+-- the operation at an index is done: what is known of those after it
 module _ (ops : List Op) (index : ℕ) (op : Op) (within : index < length ops) (is : get_or ops index op ≡ op) where
   pub own_ahead : (table : Writes) (n : Numbered) → AreOwnIn table n (take index ops) (drop index ops) → AreOwnIn table n (take (index + 1) ops) (drop (index + 1) ops)
   own_ahead table n own =

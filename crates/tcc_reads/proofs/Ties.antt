@@ -13,7 +13,7 @@ use Rattle.tcc_reads.specs.Sources.{name_cmp}
 pub names_tie : (a b : List ℕ) → is_eq (name_cmp a b) ≡ bytes_eq a b
 names_tie a b = sym (texts_ties a b)
 
--- names of the same bytes are one
+-- names of the same bytes are equal
 pub same_name : (a b : List ℕ) → bytes_eq a b ≡ true → a ≡ b
 same_name a b e = (bytes_eq-Decides a b).0 e
 
@@ -30,7 +30,7 @@ pub cond_or : (b c : Bool) → cond b true c ≡ (b || c)
 cond_or true c = refl
 cond_or false c = refl
 
--- what a list is around the item before an index
+-- a list before and after an index, around the item before the index
 pub record IsReadBefore {A : Type 0} (xs : List A) (index : ℕ) (x : A) : Type 0 where
   pub ahead : drop (index - 1) xs ≡ x ∷ drop index xs
   pub behind : take (index - 1) xs ++ x ∷ [] ≡ take index xs
@@ -45,7 +45,7 @@ read_before xs index d x some within is =
       count = omega (arith, length-take (index - 1) xs);
     }
 
--- what a list is around the item at an index
+-- a list before and after an index, around the item at the index
 pub record IsReadAt {A : Type 0} (xs : List A) (index : ℕ) (x : A) : Type 0 where
   pub ahead : drop index xs ≡ x ∷ drop (index + 1) xs
   pub behind : take (index + 1) xs ≡ take index xs ++ x ∷ []

@@ -20,7 +20,7 @@ use Rattle.tcc_reads.specs.private.Tracings.{source_traced, entry_traced, entrie
 use Rattle.tcc_reads.proofs.Agreement.{Agree, fault_agrees}
 use Rattle.tcc_reads.proofs.Sourcing.{with_source, site_source}
 
--- what passes on the way is the same
+-- if all passes, what is traced is what is found
 pub passes_all : (table : Writes) (p : List ℕ × ℕ → Bool) → ((r : List ℕ × ℕ) → p r ≡ true) → (ns : List Numbered)
     → entries_found table ns ≡ entries_traced table p ns
 passes_all table p all ns =
@@ -47,7 +47,7 @@ no_source stand position op (Faulty kind) f e = refl
 no_source stand position op (ReadsFrom number) f e = absurd cc
 no_source stand position op Silent f e = refl
 
--- what a sieve keeps of one read
+-- what a filter keeps of one read
 sieve : (all : List Stand) (p : List ℕ × ℕ → Bool) (here : List ℕ × ℕ) (o : Option (List ℕ × ℕ)) → ((r : List ℕ × ℕ) → o ≡ Some r → r ≡ here)
     → (xs : List (List ℕ × ℕ))
     → cons_option (cond (p here) (option_map (with_source all) o) None) (map (with_source all) (filter p xs)) ≡ map (with_source all) (filter p (cons_option o xs))

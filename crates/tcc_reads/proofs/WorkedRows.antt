@@ -55,7 +55,7 @@ pub duplicate : faults (("a", committed (Put x 1 ∷ []) ∷ []) ∷ ("b", abort
     ≡ fault "b" 1 1 x 1 Duplicate ∷ []
 duplicate = refl
 
--- the last write of the key is again of the value that was written over: positions count, not values
+-- the last write of the key has again the value that was overwritten: positions count, not values
 pub written_again : faults (("a", committed (Put x 1 ∷ Put x 2 ∷ Put x 1 ∷ []) ∷ []) ∷ ("b", committed (Get x 1 ∷ []) ∷ []) ∷ [])
     ≡ fault "a" 1 3 x 1 Duplicate ∷ fault "b" 1 1 x 1 Intermediate ∷ []
 written_again = refl
@@ -83,7 +83,7 @@ every_kind_twice = refl
 abbrev entry : ℕ → ℕ → List (List ℕ) → List (List ℕ × ℕ) → Entry
 entry owner place writes reads = record { owner = owner; place = place; writes = writes; reads = reads }
 
--- an aborted transaction has a place and no number; each pair stands once, in order; an internal read gives none
+-- an aborted transaction has a place and no number; each pair is there once, in order; an internal read gives none
 pub numbers_and_sources : history_of (map codes ("a" ∷ "b" ∷ "c" ∷ [])) (stands (
     ("a", aborted (Put x 9 ∷ []) ∷ committed (Put y 1 ∷ Put x 1 ∷ Put x 2 ∷ Get x 2 ∷ []) ∷ []) ∷
     ("b", []) ∷
@@ -101,7 +101,7 @@ traced sessions = record {
   entries = initial ∷ map (traced_entry (stands sessions)) (committed_of (stands sessions));
 }
 
--- of each kind of fault the read gives no pair, and the others of its transaction do
+-- for each kind of fault the read gives no pair, and the other reads of its transaction do
 pub faults_left_out : traced (
     ("a", committed (Put x 1 ∷ Put x 2 ∷ Put y 1 ∷ []) ∷ aborted (Put z 3 ∷ []) ∷ []) ∷
     ("b", committed (Get x 1 ∷ Get y 1 ∷ Get z 3 ∷ []) ∷ committed (Get x 2 ∷ Get y 9 ∷ Get z 4 ∷ Put z 4 ∷ Get z 5 ∷ []) ∷ []) ∷
@@ -113,7 +113,7 @@ pub faults_left_out : traced (
     }
 faults_left_out = refl
 
--- of a value that was written twice nobody knows who is read from; both writers stay writers
+-- the source of a value that was written twice is unknown; both writers stay writers
 pub written_twice_left_out : traced (
     ("a", committed (Put x 1 ∷ Put y 1 ∷ []) ∷ []) ∷
     ("b", committed (Put x 1 ∷ []) ∷ []) ∷

@@ -24,7 +24,7 @@ writer all x v = find (λ site. puts x v site.op) (sites all)
 abbrev pub is_same_transaction : Stand → Stand → Bool
 is_same_transaction a b = (a.session == b.session) && (a.place == b.place)
 
--- the one operation is the other
+-- the two operations are the same
 abbrev pub is_same_site : Site → Site → Bool
 is_same_site a b = is_same_transaction a.stand b.stand && (at a == at b)
 
@@ -32,12 +32,12 @@ is_same_site a b = is_same_transaction a.stand b.stand && (at a == at b)
 abbrev pub is_last_at_key : Site → Bool
 is_last_at_key write = not (list_any (puts_at (op_key write.op)) write.after)
 
--- a write, by the writer of its value
+-- the fault of a write, by the writer of its value
 abbrev pub write_kind : Site → Option Site → Option ReadFaultKind
 write_kind write None = Some Duplicate
 write_kind write (Some first) = if is_same_site first write then None else Some Duplicate
 
--- an external read of a value other than 0, by the writer of the value
+-- the fault of an external read of a value other than 0, by the writer of the value
 abbrev pub external_kind : Site → Option Site → Option ReadFaultKind
 external_kind read None = Some ThinAir
 external_kind read (Some first) =
@@ -46,7 +46,7 @@ external_kind read (Some first) =
     else if is_last_at_key first then None
     else Some Intermediate
 
--- a read of this value in a committed transaction, by the latest own write of its key
+-- the fault of a read of this value in a committed transaction, by the latest own write of its key
 abbrev pub read_kind : List Stand → Site → List ℕ → ℕ → Option ℕ → Option ReadFaultKind
 read_kind all read key value (Some own) = if own == value then None else Some BrokenInternal
 read_kind all read key value None = if value == 0 then None else external_kind read (writer all key value)

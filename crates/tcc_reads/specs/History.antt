@@ -1,4 +1,4 @@
--- Histories whose reads are resolved: the committed transactions by number, and who read from whom.
+-- Histories whose reads are resolved: the committed transactions by number, and which read from which.
 use Rattle.std.specs.Prelude.{ℕ, ◌<◌, ◌≤◌, ◌≡◌, List, [], length, map, drop, slice_index_or}
 
 -- a committed transaction, or `init`, as the graph sees it
@@ -19,7 +19,7 @@ pub record History : Type 0 where
   -- by number: `init`, and then by session and place
   pub entries : List Entry
 
--- number 0, `init`: by definition it writes 0 at every key, so no list says so
+-- number 0, `init`: by definition it writes 0 at every key, so its list of writes is empty
 abbrev pub initial : Entry
 initial = record { owner = 0; place = 0; writes = []; reads = [] }
 
@@ -31,7 +31,7 @@ count h = length h.entries
 abbrev pub entry_at : History → ℕ → Entry
 entry_at h n = slice_index_or h.entries n initial
 
--- the session's index of a transaction
+-- the index of the session of a transaction
 abbrev pub owner : History → ℕ → ℕ
 owner h n = (entry_at h n).owner
 
@@ -43,7 +43,7 @@ place h n = (entry_at h n).place
 abbrev pub places_of : List Entry → List (ℕ × ℕ)
 places_of entries = map (λ e. (e.owner, e.place)) (drop 1 entries)
 
--- transactions stand by session, and in one session by place; `init` stands as place 0 of the first session
+-- transactions are in order by session, and in one session by place; `init` has place 0 of the first session
 abbrev pub IsBySession : List Entry → Type 0
 IsBySession entries =
     (m : ℕ) (n : ℕ) → m < n → n < length entries → ((slice_index_or entries m initial).owner ≤ (slice_index_or entries n initial).owner)

@@ -22,7 +22,7 @@ entry_of names p = record { owner = p.owner; place = p.place; writes = map (name
 abbrev pub entries_of : List (List ℕ) → List Indexed → List Entry
 entries_of names indexed = map (entry_of names) indexed
 
--- the indices are those of so many keys
+-- the indices are below the count of keys
 pub record IsWithin (count : ℕ) (p : Indexed) : Type 0 where
   pub writes : All (λ k. k < count) p.writes
   pub reads : All (λ read. read.0 < count) p.reads

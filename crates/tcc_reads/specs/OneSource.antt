@@ -1,4 +1,4 @@
--- What each external read of a resolved snapshot has: one source, which is another transaction.
+-- Each external read of a resolved snapshot has one source, which is another transaction.
 use Rattle.std.specs.Prelude.{ℕ, ◌+◌, ◌<◌, ◌≡◌, ◌≢◌, true, List, length, slice_index_or, Contains}
 use Rattle.tcc_txn.specs.Snapshots.{Sessions}
 use Rattle.tcc_reads.specs.Sites.{Stand, stands, committed}
@@ -13,11 +13,11 @@ IsNumber s n stand =
 abbrev pub ReadsFromOthers : Sessions → ℕ → List ℕ → ℕ → Type 0
 ReadsFromOthers s n x v = (reader : Stand) × IsNumber s n reader × Contains (external_reads reader) (x, v)
 
--- the transaction of this number is committed, and its last write at the key is of the value
+-- the transaction of this number is committed, and its last write at the key has the value
 abbrev pub Gives : Sessions → ℕ → List ℕ → ℕ → Type 0
 Gives s m x v = (giver : Stand) × IsNumber s m giver × (shows x v giver ≡ true)
 
--- 0 is read from the initial transaction; any other value from the one transaction that gives it; no transaction from
+-- 0 is read from the initial transaction; any other value from the one transaction that gives it; no transaction reads from
 -- itself
 pub record HasOneSource (s : Sessions) (n : ℕ) (x : List ℕ) (v : ℕ) : Type 0 where
   pub initial : v ≡ 0 → source (stands s) x v ≡ 0

@@ -5,7 +5,7 @@ use Rattle.tcc_reads.specs.declared.fault.ResolveFault.{ResolveFault}
 use Rattle.tcc_reads.specs.declared.fault.ResolveFault.TheVariants.{Reads, NoMemory}
 use Rattle.tcc_reads.specs.Faults.{read_faults}
 
--- the list has exactly the faults of the snapshot, of which there is one at least; or memory is out
+-- the list has exactly the faults of the snapshot, at least one; or memory is out
 abbrev pub IsRefusal : Sessions → ResolveFault → Type 0
 IsRefusal s (Reads faults) = (faults.items ≡ read_faults s) × (faults.items ≢ [])
 IsRefusal s NoMemory = Unit {0}

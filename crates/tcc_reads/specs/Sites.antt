@@ -1,11 +1,11 @@
--- Transactions and operations, where they stand in a snapshot.
+-- Transactions and operations with their positions in a snapshot.
 use Rattle.std.specs.Prelude.{ℕ, ◌+◌, Bool, List, [], ◌∷◌, ◌++◌, length, filter, flat_map}
 use Rattle.std.specs.FinMap.{entries}
 use Rattle.tcc_txn.specs.Snapshots.{Sessions}
 use Rattle.tcc_txn.specs.Transactions.{Transaction}
 use Rattle.tcc_txn.specs.declared.op.Op.{Op}
 
--- a transaction, where it stands
+-- a transaction with its position
 pub record Stand : Type 0 where
   -- the index and the name of its session; the names are in byte order
   pub session : ℕ
@@ -23,7 +23,7 @@ stands_in session name place [] = []
 stands_in session name place (txn ∷ later) =
     record { session = session; name = name; place = place; txn = txn } ∷ stands_in session name (place + 1) later
 
--- the transactions of some sessions, of which the first has this index
+-- the transactions of some sessions, the first of which has this index
 abbrev pub stands_from : ℕ → List (List ℕ × List Transaction) → List Stand
 stands_from session [] = []
 stands_from session (named ∷ later) = stands_in session named.0 1 named.1 ++ stands_from (session + 1) later

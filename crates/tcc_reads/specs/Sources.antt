@@ -34,7 +34,7 @@ abbrev pub key_put : Op → Option (List ℕ)
 key_put (Get key value) = None
 key_put (Put key value) = Some key
 
--- what an operation reads at its key where no own write stands before it
+-- what an operation reads at its key, if no own write comes before it
 abbrev pub external_part : Op → (List ℕ → Option ℕ) → Option (List ℕ × ℕ)
 external_part (Get key value) own = if is_none (own key) then Some (key, value) else None
 external_part (Put key value) own = None

@@ -1,4 +1,4 @@
--- What of a snapshot can be traced where some of its operations are faulty.
+-- What can be traced of a snapshot some of whose operations are faulty.
 use Rattle.std.specs.Prelude.{ℕ, Bool, true, false, not, ◌&&◌, ◌==◌, if◌then◌else◌, List, ◌∷◌, map, filter, filter_map, Option, None, is_none}
 use Rattle.std.specs.List.{list_any}
 use Rattle.std.specs.FinMap.{entries}
@@ -45,7 +45,7 @@ traced_entry all stand = record {
   reads = sorted_once pair_cmp (map (λ r. (r.0, source all r.0 r.1)) (traced_reads all stand));
 }
 
--- the history of a snapshot, of which each read that can't be traced is left out
+-- the history of a snapshot without the reads that can't be traced
 abbrev pub traced_history : Sessions → History
 traced_history s = record {
   sessions = map (λ named. named.0) (entries s);

@@ -6,7 +6,7 @@ use std::alloc::{AllocError, AllocFailed};
 use tcc_txn::{Name, NoMemory};
 use thiserror::Error;
 
-/// What is wrong with an operation. The kinds but the first are of reads of committed transactions.
+/// What is wrong with an operation. All kinds but the first are of reads of committed transactions.
 #[derive(Clone, Copy, Debug, PartialEq, Eq, Error)]
 pub enum ReadFaultKind {
     /// It writes a value that was written at its key before.
@@ -21,7 +21,7 @@ pub enum ReadFaultKind {
     /// It reads a value that an aborted transaction wrote.
     #[error("an aborted transaction wrote the value")]
     Aborted,
-    /// It reads a value that another transaction wrote, and then wrote over.
+    /// It reads a value that another transaction wrote, and then overwrote.
     #[error("the value was written over in its transaction")]
     Intermediate,
     /// It reads a value that its transaction writes later.
@@ -52,7 +52,7 @@ pub enum ResolveFault {
     /// All faulty operations, by session name in byte order, place and operation; at least one.
     #[error("some operations read or write what no source explains")]
     Reads(Vec<ReadFault>),
-    /// A growth was refused.
+    /// Memory was refused.
     #[error("out of memory")]
     NoMemory,
 }

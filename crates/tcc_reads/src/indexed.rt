@@ -3,8 +3,8 @@ ghost use Rattle.std.specs.Prelude.{◌≡◌};
 
 use std::marker::Model;
 
-/// A committed transaction, or the initial one: its session and place, and the indices of the keys that it writes and reads,
-/// those read each with its source.
+/// A committed transaction, or the initial one: its session and place, and the indices of the keys that it writes and reads.
+/// Each read has its source too.
 #[derive(Drop)]
 pub struct Indexed {
     pub(crate) owner: u32,

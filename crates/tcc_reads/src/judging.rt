@@ -5,7 +5,7 @@ ghost use Rattle.tcc_txn.specs.{KeyNumbers.AreNumbers, Symbols.IsNumber, declare
 ghost use Rattle.tcc_reads.specs.{Indexed.named, Sources.visible_write, private.Tracings.is_outside, private.Tracings.sources_traced};
 ghost use Rattle.tcc_reads.specs.private.Verdicts.{writers_in, is_in, write_judgement, read_judgement, op_judgement, fault_in, read_in, IsOwn, AreOwnIn, faults_found, sources_found};
 
-use crate::standing::Standing;
+use crate::located::LocatedTxn;
 use crate::writers::{Writer, Writers, first_writer};
 use crate::{ReadFault, ReadFaultKind};
 use std::alloc::{AllocError, Global};
@@ -23,21 +23,21 @@ enum OpJudgement {
     Silent,
 }
 
-/// Whether a write stands in this transaction.
-fn is_in(standing: &Standing<'_>, first: &Writer) -> bool
-    ensures { result ≡ is_in standing.now first.now }
+/// Whether the transaction has this write.
+fn is_in(located: &LocatedTxn<'_>, first: &Writer) -> bool
+    ensures { result ≡ is_in located.now first.now }
 {
-    first.session == standing.session && first.place == standing.place
+    first.session == located.session && first.place == located.place
 }
 
-/// Of a write at a position of its transaction, from 1, by the first write of its value.
-fn write_judgement(standing: &Standing<'_>, position: u16, writer: Option<&Writer>) -> OpJudgement
-    ensures { result ≡ write_judgement standing.now position (option_copied writer.entry) }
+/// Judges a write at a position of its transaction, counted from 1, by the first write of its value.
+fn write_judgement(located: &LocatedTxn<'_>, position: u16, writer: Option<&Writer>) -> OpJudgement
+    ensures { result ≡ write_judgement located.now position (option_copied writer.entry) }
 {
     match writer {
         None => OpJudgement::Faulty(ReadFaultKind::Duplicate),
         Some(first) => {
-            if is_in(standing, first) && first.op == position {
+            if is_in(located, first) && first.op == position {
                 OpJudgement::Silent
             } else {
                 OpJudgement::Faulty(ReadFaultKind::Duplicate)
@@ -46,9 +46,9 @@ fn write_judgement(standing: &Standing<'_>, position: u16, writer: Option<&Write
     }
 }
 
-/// Of an external read of a value other than 0, by the first write of the value.
-fn read_judgement(standing: &Standing<'_>, writer: Option<&Writer>) -> OpJudgement
-    ensures { result ≡ read_judgement standing.now (option_copied writer.entry) }
+/// Judges an external read of a value other than 0, by the first write of the value.
+fn read_judgement(located: &LocatedTxn<'_>, writer: Option<&Writer>) -> OpJudgement
+    ensures { result ≡ read_judgement located.now (option_copied writer.entry) }
 {
     let Some(first) = writer else {
         return OpJudgement::Faulty(ReadFaultKind::ThinAir);
@@ -56,7 +56,7 @@ fn read_judgement(standing: &Standing<'_>, writer: Option<&Writer>) -> OpJudgeme
     let Some(number) = first.number else {
         return OpJudgement::Faulty(ReadFaultKind::Aborted);
     };
-    if is_in(standing, first) {
+    if is_in(located, first) {
         return OpJudgement::Faulty(ReadFaultKind::Future);
     }
     if first.last {
@@ -66,7 +66,7 @@ fn read_judgement(standing: &Standing<'_>, writer: Option<&Writer>) -> OpJudgeme
     }
 }
 
-/// The value of the latest write of a key among these operations, if there is one: from the last one back.
+/// The value of the latest write of a key among these operations, if there is one. It searches from the last operation back.
 fn latest_write(ops: &[Op], key: &Name) -> Option<u64>
     ensures { result ≡ visible_write key.now ops.now }
 {
@@ -85,31 +85,31 @@ fn latest_write(ops: &[Op], key: &Name) -> Option<u64>
     None
 }
 
-/// Of an operation at a position of its transaction, from 1, after these, by the index of its key. Where no value was written
-/// twice, writes need no look-up.
+/// Judges an operation at a position of its transaction, counted from 1, after these, by the index of its key. If no value was
+/// written twice, writes need no look-up.
 fn judgement_of(
     writers: &Writers,
     distinct: bool,
-    standing: &Standing<'_>,
+    located: &LocatedTxn<'_>,
     position: u16,
     op: Op,
     index: u32,
     before: &[Op],
 ) -> OpJudgement
-    requires own { distinct ≡ true → IsOwn (writers_in writers.now) standing.now position op }
+    requires own { distinct ≡ true → IsOwn (writers_in writers.now) located.now position op }
     requires index { IsNumber writers.now.keys (op_key op) index }
-    ensures { result ≡ op_judgement (writers_in writers.now) standing.now position op (visible_write (op_key op) before.now) }
+    ensures { result ≡ op_judgement (writers_in writers.now) located.now position op (visible_write (op_key op) before.now) }
 {
     match op {
         Op::Put { value, .. } => {
             if distinct {
                 OpJudgement::Silent
             } else {
-                write_judgement(standing, position, first_writer(writers, index, value))
+                write_judgement(located, position, first_writer(writers, index, value))
             }
         }
         Op::Get { key, value } => {
-            if !standing.txn.committed() {
+            if !located.txn.committed() {
                 return OpJudgement::Silent;
             }
             match latest_write(before, &key) {
@@ -124,7 +124,7 @@ fn judgement_of(
                     if value == 0 {
                         OpJudgement::ReadsFrom(0)
                     } else {
-                        read_judgement(standing, first_writer(writers, index, value))
+                        read_judgement(located, first_writer(writers, index, value))
                     }
                 }
             }
@@ -132,9 +132,9 @@ fn judgement_of(
     }
 }
 
-/// Adds what was found out about an operation at a position of its transaction, from 1, by the index of its key.
+/// Adds what was found out about an operation at a position of its transaction, counted from 1, by the index of its key.
 fn note(
-    standing: &Standing<'_>,
+    located: &LocatedTxn<'_>,
     position: u16,
     op: &Op,
     index: u32,
@@ -142,14 +142,14 @@ fn note(
     faults: &mut Vec<ReadFault>,
     reads: &mut Vec<(u32, u32)>,
 ) -> Result<(), AllocError>
-    ensures fault { OnOk result (faults.new.items ≡ faults.old.items ++ option_to_list (fault_in standing.now.stand position op.now judgement)) }
+    ensures fault { OnOk result (faults.new.items ≡ faults.old.items ++ option_to_list (fault_in located.now.stand position op.now judgement)) }
     ensures read { OnOk result (reads.new.items ≡ reads.old.items ++ option_to_list (read_in index judgement)) }
 {
     match judgement {
         OpJudgement::Faulty(kind) => {
             let fault = ReadFault {
-                session: *standing.name,
-                place: standing.place,
+                session: *located.name,
+                place: located.place,
                 op: u32::from(position),
                 key: op.key(),
                 value: op.value(),
@@ -166,7 +166,7 @@ fn note(
     }
 }
 
-/// Adds an external read, by the index of its key, with its source, unless its key and value are among these.
+/// Adds an external read, by the index of its key, with its source, unless its key and value are in `rewrites`.
 fn note_traced(
     rewrites: &BTreeSet<(Name, u64)>,
     op: &Op,
@@ -185,23 +185,23 @@ fn note_traced(
     Ok(())
 }
 
-/// Judges these operations of a transaction, by the indices of their keys: adds its faults, and gives its external reads, by the
-/// indices of their keys too, with their sources.
+/// Judges these operations of a transaction, by the indices of their keys. It adds the faults to `faults`, and returns the
+/// external reads with their sources, by the indices of their keys too.
 pub(crate) fn judge(
     alloc: Global,
     writers: &Writers,
     distinct: bool,
-    standing: &Standing<'_>,
+    located: &LocatedTxn<'_>,
     ops: &[Op],
     indices: &[u32],
     faults: &mut Vec<ReadFault>,
 ) -> Result<Vec<(u32, u32)>, AllocError>
-    requires ops { ops.now ≡ standing.now.stand.txn.ops }
+    requires ops { ops.now ≡ located.now.stand.txn.ops }
     requires few { length ops.now ≤ MAX_OPERATIONS }
     requires indices { AreNumbers writers.now.keys indices.now (map op_key ops.now) }
-    requires own { distinct ≡ true → AreOwnIn (writers_in writers.now) standing.now [] ops.now }
-    ensures faults { IfOk result (λ _. faults.new.items ≡ faults.old.items ++ faults_found (writers_in writers.now) standing.now) }
-    ensures sources { IfOk result (λ reads. named writers.now.keys reads.items ≡ sources_found (writers_in writers.now) standing.now) }
+    requires own { distinct ≡ true → AreOwnIn (writers_in writers.now) located.now [] ops.now }
+    ensures faults { IfOk result (λ _. faults.new.items ≡ faults.old.items ++ faults_found (writers_in writers.now) located.now) }
+    ensures sources { IfOk result (λ reads. named writers.now.keys reads.items ≡ sources_found (writers_in writers.now) located.now) }
     ensures within { IfOk result (λ reads. All (λ read. read.0 < length writers.now.keys) reads.items) }
 {
     let mut reads = Vec::new(alloc);
@@ -209,26 +209,26 @@ pub(crate) fn judge(
         let position = before as u16 + 1;
         let index = indices[before];
         let earlier = &ops[..before];
-        let judgement = judgement_of(writers, distinct, standing, position, *op, index, earlier);
-        note(standing, position, op, index, judgement, faults, &mut reads)?;
+        let judgement = judgement_of(writers, distinct, located, position, *op, index, earlier);
+        note(located, position, op, index, judgement, faults, &mut reads)?;
     }
     Ok(reads)
 }
 
-/// Traces the external reads of a transaction of these operations, by the indices of their keys: gives those without a fault, by
-/// the indices of their keys too, with their sources, but none of these keys and values.
+/// Traces the external reads of a transaction with these operations, by the indices of their keys. It returns those without a
+/// fault with their sources, by the indices of their keys too. Reads whose key and value are in `rewrites` are left out.
 pub(crate) fn trace(
     alloc: Global,
     writers: &Writers,
     rewrites: &BTreeSet<(Name, u64)>,
-    standing: &Standing<'_>,
+    located: &LocatedTxn<'_>,
     ops: &[Op],
     indices: &[u32],
 ) -> Result<Vec<(u32, u32)>, AllocError>
-    requires ops { ops.now ≡ standing.now.stand.txn.ops }
+    requires ops { ops.now ≡ located.now.stand.txn.ops }
     requires few { length ops.now ≤ MAX_OPERATIONS }
     requires indices { AreNumbers writers.now.keys indices.now (map op_key ops.now) }
-    ensures sources { IfOk result (λ reads. named writers.now.keys reads.items ≡ sources_traced (writers_in writers.now) (is_outside rewrites.now) standing.now) }
+    ensures sources { IfOk result (λ reads. named writers.now.keys reads.items ≡ sources_traced (writers_in writers.now) (is_outside rewrites.now) located.now) }
     ensures within { IfOk result (λ reads. All (λ read. read.0 < length writers.now.keys) reads.items) }
 {
     let mut reads = Vec::new(alloc);
@@ -236,7 +236,7 @@ pub(crate) fn trace(
         let position = before as u16 + 1;
         let index = indices[before];
         let earlier = &ops[..before];
-        let judgement = judgement_of(writers, false, standing, position, *op, index, earlier);
+        let judgement = judgement_of(writers, false, located, position, *op, index, earlier);
         note_traced(rewrites, op, index, judgement, &mut reads)?;
     }
     Ok(reads)

@@ -1,6 +1,6 @@
-//! The keys of a snapshot's operations, each by its index in byte order. Each name is looked up once, however many operations it
-//! has: a cache of indices is asked, and one name compared; where that is another one the names are halved, in as many steps as
-//! the logarithm of their count.
+//! The keys of a snapshot's operations, each by its index in byte order. Each name is looked up once, however many operations
+//! it has. A look-up asks a cache of indices and compares one name. If that is another name, it searches the names by halving,
+//! in as many steps as the logarithm of their count.
 ghost use Rattle.std.specs.Prelude.{All, ◌≡◌, ◌<◌, ◌≤◌, true, List, ℕ, length, map, slice_index_or, IfOk, IfSome};
 ghost use Rattle.std.specs.FinMap.{entries};
 ghost use Rattle.std.specs.List.Sorted.{IsStrictlySortedBy};
@@ -17,7 +17,7 @@ use tcc_txn::{Bounds, KeyNumbers, Name, Nearby, NoMemory, SnapshotWithin};
 #[derive(Drop)]
 pub(crate) struct Keys {
     names: Vec<Name>,
-    /// The index of most keys, found without halving.
+    /// The index of most keys, found without a binary search.
     nearby: Nearby,
 }
 
@@ -34,14 +34,14 @@ impl Model for Keys {
     ghost invariant = { λ k. IsStrictlySortedBy name_cmp k.names.items × (length k.names.items ≤ MAX) };
 }
 
-/// These names, of their own.
+/// A copy of these names.
 fn copied(alloc: Global, names: &[Name]) -> Result<Vec<Name>, NoMemory>
     ensures { IfOk result (λ copy. copy.items ≡ names.now) }
 {
     Ok(names.iter().copied().collect(alloc)?)
 }
 
-/// Names in order, each once.
+/// The names in order, each once.
 fn in_order(alloc: Global, names: &[Name]) -> Result<Vec<Name>, NoMemory>
     ensures same { IfOk result (λ keys. (x : List ℕ) → has_key keys.items x ≡ has_key names.now x) }
     ensures sorted { IfOk result (λ keys. IsStrictlySortedBy name_cmp keys.items) }
@@ -51,7 +51,7 @@ fn in_order(alloc: Global, names: &[Name]) -> Result<Vec<Name>, NoMemory>
 }
 
 impl Keys {
-    /// The keys of these names. More than a number of 32 bits counts are answered as `NoMemory`.
+    /// The keys with these names. If there are more than 32 bits count, the error is `NoMemory`.
     fn of(alloc: Global, names: &[Name]) -> Result<Keys, NoMemory>
         ensures { IfOk result (λ keys. (x : List ℕ) → has_key keys x ≡ has_key names.now x) }
     {
@@ -67,7 +67,7 @@ impl Keys {
     pub fn are_sorted(&self)
         ensures { IsStrictlySortedBy name_cmp self.now }
     {
-        // The proof reads here that the names are in order.
+        // This read shows the proof that the names are in order.
         let _ = &self.names;
     }
 
@@ -79,7 +79,7 @@ impl Keys {
         self.names.len()
     }
 
-    /// The names, in byte order, each once, given away.
+    /// The names, in byte order, each once, by value.
     pub fn into_names(self) -> Vec<Name>
         ensures names { result.items ≡ self }
         ensures sorted { IsStrictlySortedBy name_cmp self }
@@ -88,7 +88,7 @@ impl Keys {
         self.names
     }
 
-    /// The index of a key that the cache knows; none says nothing.
+    /// The index of a key that the cache knows. `None` says nothing about the key.
     fn near(&self, key: &Name) -> Option<u32>
         ensures { IfSome result (λ k. IsNumber self.now key.now k) }
     {
@@ -99,12 +99,12 @@ impl Keys {
         }
     }
 
-    /// The index of a key; none where it isn't there.
+    /// The index of a key; none if it isn't there.
     fn find(&self, key: &Name) -> Option<u32>
         ensures value { result ≡ index_of self.now key.now }
         ensures within { IfSome result (λ k. k < length self.now) }
     {
-        // The proof reads here that the names are in order.
+        // This read shows the proof that the names are in order.
         let _ = &self.names;
         if let Some(index) = self.near(key) {
             return Some(index);

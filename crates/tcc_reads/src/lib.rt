@@ -1,4 +1,4 @@
-//! Who read from whom: each external read of a snapshot gets its source, or every fault is named.
+//! Which transaction read from which: each external read of a snapshot gets its source, or every fault is named.
 #![tactic(auto)]
 
 mod fault;
@@ -6,11 +6,11 @@ mod indexed;
 mod judging;
 mod keys;
 pub mod laws;
+mod located;
 mod numbering;
 mod resolved;
 mod resolver;
 mod sorting;
-mod standing;
 mod tracing;
 mod transaction;
 mod writers;

@@ -1,15 +1,15 @@
-//! Where the transactions of a snapshot stand, in one list, with the numbers of the committed ones.
+//! The places of the transactions of a snapshot, in one list, with the numbers of the committed ones.
 ghost use Rattle.std.specs.Prelude.{◌≡◌, ◌<◌, ◌≤◌, ◌+◌, ◌∷◌, ◌++◌, true, All, List, length, drop, map, if◌then◌else◌, IfOk};
 ghost use Rattle.std.specs.FinMap.{entries};
 ghost use Rattle.tcc_txn.specs.{Finished.transaction_count, Limits.most_sessions, Limits.most_transactions, Snapshots.finished_at, declared.limits.TheConstants.LARGE_COUNT, declared.limits.TheConstants.MAX_OPERATIONS};
 ghost use Rattle.tcc_reads.specs.Sites.{Stand, stands_in, stands};
 ghost use Rattle.tcc_reads.specs.private.Numbers.{IsPlace, name_in, numbered, numbered_at, numbered_from};
 
-use crate::standing::{Place, Standing};
+use crate::located::{LocatedTxn, Place};
 use std::alloc::{AllocError, Global};
 use tcc_txn::{Bounds, Name, NoMemory, Op, Recorded, SnapshotWithin};
 
-/// The name of a session that is there.
+/// The name of a session of the snapshot.
 fn name_at<B: Bounds>(snapshot: &SnapshotWithin<B>, session: u32) -> &Name
     requires { session < length (entries snapshot.now) }
     ensures { drop session (entries snapshot.now)
@@ -18,7 +18,7 @@ fn name_at<B: Bounds>(snapshot: &SnapshotWithin<B>, session: u32) -> &Name
     snapshot.name(session).unwrap()
 }
 
-/// A transaction that is there.
+/// A transaction of the snapshot.
 fn recorded_at<B: Bounds>(snapshot: &SnapshotWithin<B>, session: u32, before: usize) -> Recorded<'_>
     requires { before < length (finished_at snapshot.now session) }
     ensures { drop before (finished_at snapshot.now session) ≡ result ∷ drop (before + 1) (finished_at snapshot.now session) }
@@ -27,11 +27,11 @@ fn recorded_at<B: Bounds>(snapshot: &SnapshotWithin<B>, session: u32, before: us
 }
 
 /// The transaction at a place.
-fn standing_at<'a, B: Bounds>(snapshot: &'a SnapshotWithin<B>, place: &Place) -> Standing<'a>
+fn located_at<'a, B: Bounds>(snapshot: &'a SnapshotWithin<B>, place: &Place) -> LocatedTxn<'a>
     requires { IsPlace snapshot.now place.now }
     ensures { result ≡ numbered_at snapshot.now place.now }
 {
-    Standing {
+    LocatedTxn {
         session: place.session,
         name: name_at(snapshot, place.session),
         place: place.before + 1,
@@ -40,20 +40,20 @@ fn standing_at<'a, B: Bounds>(snapshot: &'a SnapshotWithin<B>, place: &Place) ->
     }
 }
 
-/// The transaction at a place; its operations come in place of those that a vector held.
-pub(crate) fn visit<'a, B: Bounds>(
+/// The transaction at a place. Its operations replace those in a vector.
+pub(crate) fn unpack_txn<'a, B: Bounds>(
     snapshot: &'a SnapshotWithin<B>,
     place: &Place,
     ops: &mut Vec<Op>,
-) -> Result<Standing<'a>, NoMemory>
+) -> Result<LocatedTxn<'a>, NoMemory>
     requires { IsPlace snapshot.now place.now }
-    ensures standing { IfOk result (λ standing. standing ≡ numbered_at snapshot.now place.now) }
-    ensures ops { IfOk result (λ standing. ops.new.items ≡ standing.stand.txn.ops) }
+    ensures located { IfOk result (λ located. located ≡ numbered_at snapshot.now place.now) }
+    ensures ops { IfOk result (λ located. ops.new.items ≡ located.stand.txn.ops) }
     ensures few { IfOk result (λ _. length ops.new.items ≤ MAX_OPERATIONS) }
 {
-    let standing = standing_at(snapshot, place);
-    standing.txn.fill(ops)?;
-    Ok(standing)
+    let located = located_at(snapshot, place);
+    located.txn.fill(ops)?;
+    Ok(located)
 }
 
 /// The number that comes after a transaction.
@@ -64,8 +64,8 @@ fn next_number(number: u32, committed: bool) -> u32
     if committed { number + 1 } else { number }
 }
 
-/// Adds the places of the transactions of one session, of which the first has the number `first`, and says which number comes
-/// after them.
+/// Adds the places of the transactions of one session, the first of which has the number `first`. It returns the number that
+/// comes after them.
 fn push_session<B: Bounds>(
     list: &mut Vec<Place>,
     snapshot: &SnapshotWithin<B>,

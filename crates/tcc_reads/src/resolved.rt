@@ -12,8 +12,8 @@ use std::marker::Model;
 use std::ops::Deref;
 use tcc_txn::{Name, NoMemory};
 
-/// A snapshot of the large limits, or of the small ones, of which each external read has its source. The committed
-/// transactions are numbered from 1 by session name in byte order and by place; number 0 is the initial transaction,
+/// A snapshot within the large limits of which each external read has its source; it may be one within the small limits. The
+/// committed transactions are numbered from 1 by session name in byte order and by place. Number 0 is the initial transaction,
 /// which writes 0 at every key. Each name is held once: keys are known by their indices in byte order.
 #[derive(Drop)]
 pub struct LargeResolved {
@@ -39,7 +39,7 @@ impl Model for LargeResolved {
 pub struct HistoryParts {
     /// The names of the sessions, in byte order.
     pub sessions: Vec<Name>,
-    /// Names of keys, in byte order, each once; among them those that the transactions write and read.
+    /// Names of keys, in byte order, each once. They include those that the transactions write and read.
     pub keys: Vec<Name>,
     /// The transactions by number, each by the indices of its keys.
     pub transactions: Vec<Indexed>,
@@ -54,7 +54,7 @@ impl LargeResolved {
         &self.sessions
     }
 
-    /// The session's index and the place of each committed transaction, from number 1 on. Places count aborted ones.
+    /// The index of the session and the place of each committed transaction, from number 1 on. Places count aborted ones.
     pub fn places(&self) -> &[(u32, u32)]
         ensures value { result.now ≡ places_of self.now.entries }
         ensures count { length result.now + 1 ≡ count self.now }
@@ -67,7 +67,7 @@ impl LargeResolved {
         &self.places
     }
 
-    /// The names of the sessions and of the keys, and the transactions, by number, given away.
+    /// The names of the sessions and of the keys, and the transactions, by number, by value.
     pub fn into_parts(self) -> HistoryParts
         ensures sessions { result.sessions.items ≡ self.sessions }
         ensures transactions { entries_of result.keys.items result.transactions.items ≡ self.entries }
@@ -115,8 +115,8 @@ fn named_by(
     Ok(named)
 }
 
-/// A snapshot of the small limits of which each external read has its source: what it can be asked it is asked as one of the large
-/// limits, which it dereferences to; it lends what the transactions write and read by the names of the keys.
+/// A snapshot within the small limits of which each external read has its source. It dereferences to one within the large
+/// limits, which has the other calls. It returns what the transactions write and read by the names of the keys.
 #[derive(Drop)]
 pub struct Resolved {
     pub(crate) large: LargeResolved,
@@ -171,7 +171,7 @@ impl Resolved {
         self.named[t as usize].reads()
     }
 
-    /// This history, given away as one of the large limits.
+    /// This history, by value, as one within the large limits.
     pub fn into_large(self) -> LargeResolved
         ensures value { result ≡ self }
         ensures few { count result ≤ MAX_COUNT }

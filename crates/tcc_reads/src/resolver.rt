@@ -9,9 +9,9 @@ ghost use Rattle.tcc_reads.specs.private.Verdicts.{writers_in, AreOwn, AreOwnIn,
 
 use crate::judging::judge;
 use crate::keys::Keys;
-use crate::numbering::{self, session_names, visit};
+use crate::located::{LocatedTxn, Place};
+use crate::numbering::{self, session_names, unpack_txn};
 use crate::sorting::sorted_once;
-use crate::standing::{Place, Standing};
 use crate::writers::{FirstWrites, fill_keys, first_writes};
 use crate::{Indexed, LargeResolved, ReadFault, ResolveFault, Resolved};
 use std::alloc::{AllocError, Global};
@@ -48,25 +48,25 @@ fn reads_in_order(keys: &Keys, reads: Vec<(u32, u32)>) -> Vec<(u32, u32)>
 pub(crate) fn transaction(
     alloc: Global,
     keys: &Keys,
-    standing: &Standing<'_>,
+    located: &LocatedTxn<'_>,
     ops: &[Op],
     indices: &[u32],
     reads: Vec<(u32, u32)>,
 ) -> Result<Indexed, NoMemory>
-    requires ops { ops.now ≡ standing.now.stand.txn.ops }
+    requires ops { ops.now ≡ located.now.stand.txn.ops }
     requires indices { AreNumbers keys.now indices.now (map op_key ops.now) }
     requires within { All (λ read. read.0 < length keys.now) reads.items }
     ensures entry { IfOk result (λ transaction. entry_of keys.now transaction ≡ record {
-      owner = standing.now.stand.session;
-      place = standing.now.stand.place;
-      writes = writes_of standing.now.stand;
+      owner = located.now.stand.session;
+      place = located.now.stand.place;
+      writes = writes_of located.now.stand;
       reads = sorted_once pair_cmp (named keys.now reads.items);
     }) }
     ensures within { IfOk result (λ transaction. IsWithin (length keys.now) transaction) }
 {
     Ok(Indexed {
-        owner: standing.session,
-        place: standing.place,
+        owner: located.session,
+        place: located.place,
         writes: written_keys(alloc, keys, ops, indices)?,
         reads: reads_in_order(keys, reads),
     })
@@ -76,26 +76,26 @@ pub(crate) fn transaction(
 fn examine_one(
     alloc: Global,
     first: &FirstWrites,
-    standing: &Standing<'_>,
+    located: &LocatedTxn<'_>,
     ops: &[Op],
     indices: &[u32],
     transactions: &mut Vec<Indexed>,
     faults: &mut Vec<ReadFault>,
 ) -> Result<(), NoMemory>
-    requires ops { ops.now ≡ standing.now.stand.txn.ops }
+    requires ops { ops.now ≡ located.now.stand.txn.ops }
     requires few { length ops.now ≤ MAX_OPERATIONS }
     requires indices { AreNumbers first.now.writers.keys indices.now (map op_key ops.now) }
-    requires own { first.now.distinct ≡ true → AreOwnIn (writers_in first.now.writers) standing.now [] ops.now }
+    requires own { first.now.distinct ≡ true → AreOwnIn (writers_in first.now.writers) located.now [] ops.now }
     ensures transactions { OnOk result (entries_of first.now.writers.keys transactions.new.items
-        ≡ entries_of first.now.writers.keys transactions.old.items ++ entries_found (writers_in first.now.writers) (standing.now ∷ [])) }
+        ≡ entries_of first.now.writers.keys transactions.old.items ++ entries_found (writers_in first.now.writers) (located.now ∷ [])) }
     ensures within { OnOk result (All (IsWithin (length first.now.writers.keys)) transactions.old.items → All (IsWithin (length first.now.writers.keys)) transactions.new.items) }
-    ensures faults { OnOk result (faults.new.items ≡ faults.old.items ++ faults_found (writers_in first.now.writers) standing.now) }
+    ensures faults { OnOk result (faults.new.items ≡ faults.old.items ++ faults_found (writers_in first.now.writers) located.now) }
 {
     let (writers, distinct) = (&first.writers, first.distinct);
-    let reads = judge(alloc, writers, distinct, standing, ops, indices, faults)?;
-    if standing.txn.committed() {
+    let reads = judge(alloc, writers, distinct, located, ops, indices, faults)?;
+    if located.txn.committed() {
         let keys = writers.keys();
-        transactions.push(transaction(alloc, keys, standing, ops, indices, reads)?)?;
+        transactions.push(transaction(alloc, keys, located, ops, indices, reads)?)?;
     }
     Ok(())
 }
@@ -141,12 +141,12 @@ pub(crate) fn examine<B: Bounds>(
     let mut ops = Vec::new(alloc);
     let mut left = first.indices.as_slice();
     for place in places {
-        let standing = visit(snapshot, place, &mut ops)?;
+        let located = unpack_txn(snapshot, place, &mut ops)?;
         let (mine, later) = left.split_at(ops.len());
         examine_one(
             alloc,
             first,
-            &standing,
+            &located,
             &ops,
             mine,
             &mut transactions,
@@ -160,7 +160,7 @@ pub(crate) fn examine<B: Bounds>(
     })
 }
 
-/// Session's index and place from number 1 on.
+/// The index of the session and the place, from number 1 on.
 pub(crate) fn places(alloc: Global, transactions: &[Indexed]) -> Result<Vec<(u32, u32)>, AllocError>
     ensures { IfOk result (λ places. places.items ≡ map (λ p. (p.owner, p.place)) (drop 1 transactions.now)) }
 {
@@ -171,7 +171,8 @@ pub(crate) fn places(alloc: Global, transactions: &[Indexed]) -> Result<Vec<(u32
         .collect(alloc)
 }
 
-/// Finds the source of each external read of the committed transactions of a snapshot within any limits, or else all faults.
+/// Finds the source of each external read of the committed transactions of a snapshot within either limits, or else all
+/// faults.
 fn resolve_within<B: Bounds>(
     alloc: Global,
     snapshot: &SnapshotWithin<B>,

@@ -8,9 +8,9 @@ ghost use Rattle.tcc_reads.specs.{History.initial, Indexed.IsWithin, Indexed.ent
 ghost use Rattle.tcc_reads.specs.Traced.{is_duplicate, is_rewrite, is_unique, traced_history};
 
 use crate::judging::trace;
-use crate::numbering::{self, session_names, visit};
+use crate::located::{LocatedTxn, Place};
+use crate::numbering::{self, session_names, unpack_txn};
 use crate::resolver::{Findings, examine, places, transaction, with_initial};
-use crate::standing::{Place, Standing};
 use crate::writers::{FirstWrites, first_writes};
 use crate::{Indexed, LargeResolved, ReadFault, ReadFaultKind};
 use std::alloc::{AllocError, Global};
@@ -20,8 +20,8 @@ use tcc_txn::{Bounds, Name, NoMemory, Op, SnapshotWithin};
 /// What can be traced of a snapshot, and what can't.
 #[derive(Drop)]
 pub struct Traced {
-    /// The history in which each read that can't be traced is left out, and so gives no pair: one that has a fault, and one of a
-    /// value that was written twice, of which nobody knows the source.
+    /// The history without the reads that can't be traced, which so give no pair. Such a read has a fault, or reads a value
+    /// that was written twice, so that nobody knows its source.
     pub history: LargeResolved,
     /// All faulty operations, by session name in byte order, place and operation.
     pub faults: Vec<ReadFault>,
@@ -40,7 +40,7 @@ fn is_duplicate(kind: ReadFaultKind) -> bool
     }
 }
 
-/// Takes in a fault, if it is that a value was written before.
+/// Adds a fault, if it is that a value was written before.
 fn note_rewrite(found: &mut BTreeSet<(Name, u64)>, fault: &ReadFault) -> Result<(), AllocError>
     ensures { OnOk result ((r : List ℕ × ℕ) → contains pair_cmp found.new r ≡ (is_rewrite r.0 r.1 fault.now || contains pair_cmp found.old r)) }
 {
@@ -66,22 +66,22 @@ fn trace_one(
     alloc: Global,
     first: &FirstWrites,
     rewrites: &BTreeSet<(Name, u64)>,
-    standing: &Standing<'_>,
+    located: &LocatedTxn<'_>,
     ops: &[Op],
     indices: &[u32],
     transactions: &mut Vec<Indexed>,
 ) -> Result<(), NoMemory>
-    requires ops { ops.now ≡ standing.now.stand.txn.ops }
+    requires ops { ops.now ≡ located.now.stand.txn.ops }
     requires few { length ops.now ≤ MAX_OPERATIONS }
     requires indices { AreNumbers first.now.writers.keys indices.now (map op_key ops.now) }
     ensures transactions { OnOk result (entries_of first.now.writers.keys transactions.new.items ≡ entries_of first.now.writers.keys transactions.old.items
-        ++ entries_traced (writers_in first.now.writers) (is_outside rewrites.now) (standing.now ∷ [])) }
+        ++ entries_traced (writers_in first.now.writers) (is_outside rewrites.now) (located.now ∷ [])) }
     ensures within { OnOk result (All (IsWithin (length first.now.writers.keys)) transactions.old.items → All (IsWithin (length first.now.writers.keys)) transactions.new.items) }
 {
-    if standing.txn.committed() {
-        let reads = trace(alloc, &first.writers, rewrites, standing, ops, indices)?;
+    if located.txn.committed() {
+        let reads = trace(alloc, &first.writers, rewrites, located, ops, indices)?;
         let keys = first.writers.keys();
-        transactions.push(transaction(alloc, keys, standing, ops, indices, reads)?)?;
+        transactions.push(transaction(alloc, keys, located, ops, indices, reads)?)?;
     }
     Ok(())
 }
@@ -104,13 +104,13 @@ fn trace_all<B: Bounds>(
     let mut ops = Vec::new(alloc);
     let mut left = first.indices.as_slice();
     for place in places {
-        let standing = visit(snapshot, place, &mut ops)?;
+        let located = unpack_txn(snapshot, place, &mut ops)?;
         let (mine, later) = left.split_at(ops.len());
         trace_one(
             alloc,
             first,
             rewrites,
-            &standing,
+            &located,
             &ops,
             mine,
             &mut transactions,
@@ -120,7 +120,7 @@ fn trace_all<B: Bounds>(
     Ok(transactions)
 }
 
-/// Leaves of what was found only the reads that can be traced, and all faults.
+/// Keeps of what was found only the reads that can be traced, and all faults.
 fn keep_traced<B: Bounds>(
     alloc: Global,
     first: &FirstWrites,

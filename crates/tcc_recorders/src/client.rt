@@ -1,7 +1,7 @@
 //! Clients, who are the recorders of their own sessions.
 ghost use Rattle.std.specs.Prelude.{◌≡◌, ◌++◌, ◌∷◌, [], OnOk};
 
-use crate::halt::Halt;
+use crate::halt::PlayError;
 use crate::script::{Access, Role};
 use crate::store::Store;
 use std::alloc::Global;
@@ -18,31 +18,37 @@ pub struct Client {
     pub again: Option<Receipt>,
 }
 
-/// Records a transaction. Where memory is refused it comes back, and is recorded again; the receipt is that of then.
+/// Records a transaction. Where memory is refused, the transaction is returned and recorded again; the receipt is then that
+/// of the second time.
 fn record_again(
     rt: &impl Wait,
     alloc: Global,
     book: &Book,
     pass: &mut Pass,
     txn: Txn,
-) -> Result<Option<Receipt>, Halt>
+) -> Result<Option<Receipt>, PlayError>
     ensures { OnOk result (pass.new.recorded ≡ pass.old.recorded ++ txn ∷ []) }
 {
     let Err((fault, txn)) = book.record(rt, alloc, pass, txn) else {
         return Ok(None);
     };
     if fault != RecordFault::NoMemory {
-        return Err(Halt::from(fault));
+        return Err(PlayError::from(fault));
     }
     match book.record(rt, alloc, pass, txn) {
         Ok(receipt) => Ok(Some(receipt)),
-        Err((fault, _refused)) => Err(Halt::from(fault)),
+        Err((fault, _refused)) => Err(PlayError::from(fault)),
     }
 }
 
 impl Client {
     /// A client whose session is open in the book.
-    pub fn open(rt: &impl Wait, alloc: Global, book: &Book, role: Role) -> Result<Client, Halt> {
+    pub fn open(
+        rt: &impl Wait,
+        alloc: Global,
+        book: &Book,
+        role: Role,
+    ) -> Result<Client, PlayError> {
         let session = Name::read(role.session.as_bytes())?;
         Ok(Client {
             pass: book.open(rt, alloc, session)?,
@@ -58,7 +64,7 @@ impl Client {
         store: &Store,
         round: u32,
         accesses: &[Access],
-    ) -> Result<Txn, Halt> {
+    ) -> Result<Txn, PlayError> {
         let mut ops = Vec::new(alloc);
         for access in accesses {
             let op = match access {
@@ -76,7 +82,7 @@ impl Client {
         }
         match Txn::new(ops, true) {
             Ok(txn) => Ok(txn),
-            Err((fault, _ops)) => Err(Halt::from(fault)),
+            Err((fault, _ops)) => Err(PlayError::from(fault)),
         }
     }
 
@@ -88,7 +94,7 @@ impl Client {
         book: &Book,
         store: &Store,
         round: u32,
-    ) -> Result<Client, Halt> {
+    ) -> Result<Client, PlayError> {
         let mut client = self;
         for turn in client.role.turns {
             if turn.round == round {
@@ -100,8 +106,8 @@ impl Client {
         Ok(client)
     }
 
-    /// Puts what the client wrote in this round into the store, from where the replicas will have it.
-    pub fn deliver(&self, store: &mut Store, round: u32) -> Result<(), Halt> {
+    /// Puts what the client wrote in this round into the store, from which the replicas get it.
+    pub fn deliver(&self, store: &mut Store, round: u32) -> Result<(), PlayError> {
         for turn in self.role.turns {
             for access in turn.accesses {
                 if let Access::Put { key, value, late } = access {

@@ -9,10 +9,10 @@ use tcc_run::AuditFault;
 use tcc_txn::{NameFault, NoMemory, TxnFault};
 use thiserror::Error;
 
-/// Why there is no further answer: memory was refused, standard output failed, or the script isn't one that can be played.
+/// Why there is no further answer: memory was refused, standard output failed, or the script can't be played.
 #[derive(Debug, Drop, Error)]
 #[error("there is no further answer")]
-pub enum Halt {
+pub enum PlayError {
     Memory(#[from] NoMemory),
     Allocation(#[from(alloc)] AllocError),
     Arguments(#[from] io::Error),
@@ -27,21 +27,21 @@ pub enum Halt {
     Write(#[from] WriteFault),
 }
 
-impl Halt {
+impl PlayError {
     /// Whether memory was refused.
     pub fn is_memory(&self) -> bool {
         match self {
-            Halt::Memory(_)
-            | Halt::Allocation(_)
-            | Halt::Open(OpenFault::NoMemory)
-            | Halt::Record(RecordFault::NoMemory)
-            | Halt::Seal(SealFault::NoMemory)
-            | Halt::Whole(WholeFault::NoMemory)
-            | Halt::Explain(ExplainFault::NoMemory)
-            | Halt::Audit(AuditFault::Whole(WholeFault::NoMemory))
-            | Halt::Audit(AuditFault::Explain(ExplainFault::NoMemory))
-            | Halt::Write(WriteFault::NoMemory) => true,
-            Halt::Arguments(error) => error.kind() == ErrorKind::OutOfMemory,
+            PlayError::Memory(_)
+            | PlayError::Allocation(_)
+            | PlayError::Open(OpenFault::NoMemory)
+            | PlayError::Record(RecordFault::NoMemory)
+            | PlayError::Seal(SealFault::NoMemory)
+            | PlayError::Whole(WholeFault::NoMemory)
+            | PlayError::Explain(ExplainFault::NoMemory)
+            | PlayError::Audit(AuditFault::Whole(WholeFault::NoMemory))
+            | PlayError::Audit(AuditFault::Explain(ExplainFault::NoMemory))
+            | PlayError::Write(WriteFault::NoMemory) => true,
+            PlayError::Arguments(error) => error.kind() == ErrorKind::OutOfMemory,
             _ => false,
         }
     }
@@ -50,7 +50,7 @@ impl Halt {
     pub fn status(&self) -> u8 {
         match self {
             halt if halt.is_memory() => 5,
-            Halt::Write(_) => 6,
+            PlayError::Write(_) => 6,
             _ => 64,
         }
     }

@@ -10,7 +10,7 @@ mod script;
 mod store;
 
 use client::Client;
-use halt::Halt;
+use halt::PlayError;
 use script::{ROLES, ROUNDS, SEALED};
 use std::alloc::{Alloc, Global};
 use std::io::{Eprint, Write};
@@ -26,7 +26,7 @@ use tcc_graph::Level;
 use tcc_run::audit;
 
 /// The clients, with their sessions open in the book.
-fn open_all(rt: &impl Wait, alloc: Global, book: &Book) -> Result<Vec<Client>, Halt> {
+fn open_all(rt: &impl Wait, alloc: Global, book: &Book) -> Result<Vec<Client>, PlayError> {
     let mut clients = Vec::new(alloc);
     for role in &ROLES {
         clients.push(Client::open(rt, alloc, book, *role)?)?;
@@ -42,7 +42,7 @@ fn in_turn(
     store: &Store,
     clients: Vec<Client>,
     round: u32,
-) -> Result<Vec<Result<Client, Halt>>, Halt> {
+) -> Result<Vec<Result<Client, PlayError>>, PlayError> {
     let mut ends = Vec::new(alloc);
     for client in clients {
         ends.push(client.take_turn(rt, alloc, book, store, round))?;
@@ -50,8 +50,8 @@ fn in_turn(
     Ok(ends)
 }
 
-/// A round: each client takes its turn, in a thread of its own or, alone, one after another; then what they wrote goes
-/// on its way to the replicas.
+/// A round: each client takes its turn, in a thread of its own or, with `alone`, one after another. Then what they wrote is
+/// sent to the replicas.
 fn play_round(
     rt: &(impl Threads + Wait + Sync),
     alloc: Global,
@@ -60,7 +60,7 @@ fn play_round(
     clients: Vec<Client>,
     round: u32,
     alone: bool,
-) -> Result<Vec<Client>, Halt> {
+) -> Result<Vec<Client>, PlayError> {
     let seen: &Store = store;
     let ends = if alone {
         in_turn(rt, alloc, book, seen, clients, round)?
@@ -81,14 +81,14 @@ fn play_round(
     Ok(clients)
 }
 
-/// Writes the answer for what was recorded up to now, as it stands in a seal of the first client's pass.
+/// Writes the answer for what was recorded up to now, as a seal of the first client's pass has it.
 fn answer_so_far<W: Write>(
     rt: &(impl Threads + Wait + Sync),
     alloc: Global,
     book: &Book,
     clients: &[Client],
     out: &mut W,
-) -> Result<(), Halt> {
+) -> Result<(), PlayError> {
     if let Some(client) = clients.first() {
         let sealed = book.seal(rt, alloc, &client.pass)?;
         let answer = explain(rt, alloc, &sealed, Level::Causal, Workers::ONE, &OpenGate)?;
@@ -97,8 +97,12 @@ fn answer_so_far<W: Write>(
     Ok(())
 }
 
-/// The clients' passes; what was recorded again since memory was out is said on standard error.
-fn passes_of(rt: &impl Eprint, alloc: Global, clients: Vec<Client>) -> Result<Vec<Pass>, Halt> {
+/// The clients' passes. Standard error says what was recorded again because memory was refused.
+fn passes_of(
+    rt: &impl Eprint,
+    alloc: Global,
+    clients: Vec<Client>,
+) -> Result<Vec<Pass>, PlayError> {
     let mut passes = Vec::new(alloc);
     for client in clients {
         if let Some(receipt) = client.again {
@@ -110,14 +114,14 @@ fn passes_of(rt: &impl Eprint, alloc: Global, clients: Vec<Client>) -> Result<Ve
     Ok(passes)
 }
 
-/// Plays the script, and writes three answers: for what was recorded up to the round of the seal, for all that was
-/// recorded, and for the same at the level that asks for less.
+/// Plays the script, and writes three answers: for what was recorded up to the round of the seal, for everything that was
+/// recorded, and for the same at the weaker level.
 fn play<W: Write>(
     rt: &(impl Threads + Wait + Eprint + Sync),
     alloc: Global,
     alone: bool,
     out: &mut W,
-) -> Result<(), Halt> {
+) -> Result<(), PlayError> {
     let book = Book::new(alloc)?;
     let mut clients = open_all(rt, alloc, &book)?;
     let mut store = Store::new(alloc);
@@ -140,7 +144,7 @@ fn play<W: Write>(
     write_text(alloc, &audited, out)?;
     let whole = match book.close(rt, alloc, passes) {
         Ok(whole) => whole,
-        Err(refused) => return Err(Halt::from(refused.0)),
+        Err(refused) => return Err(PlayError::from(refused.0)),
     };
     let atomic = explain(rt, alloc, &whole, Level::Atomic, Workers::ONE, &OpenGate)?;
     write_text(alloc, &atomic, out)?;
@@ -148,7 +152,7 @@ fn play<W: Write>(
 }
 
 /// Whether the first argument asks for one thread.
-fn is_alone(rt: &HostRuntime) -> Result<bool, Halt> {
+fn is_alone(rt: &HostRuntime) -> Result<bool, PlayError> {
     Ok(
         env::args(rt)?
             .nth(1)

@@ -9,7 +9,7 @@ pub enum Access {
     Get {
         key: &'static str,
     },
-    /// It writes the value at the key, which reaches the far replica so many rounds later than the near one.
+    /// It writes the value at the key, which reaches the far replica `late` rounds later than the near one.
     Put {
         key: &'static str,
         value: u64,
@@ -19,7 +19,7 @@ pub enum Access {
 
 /// A transaction, and the round in which it is done.
 #[derive(Clone, Copy)]
-pub struct Turn {
+pub struct PlannedTxn {
     pub round: u32,
     pub accesses: &'static [Access],
 }
@@ -29,13 +29,13 @@ pub struct Turn {
 pub struct Role {
     pub session: &'static str,
     pub replica: Replica,
-    pub turns: &'static [Turn],
+    pub turns: &'static [PlannedTxn],
 }
 
 /// After this round there is an answer for what was recorded so far.
 pub const SEALED: u32 = 3;
 
-/// There are so many rounds.
+/// How many rounds there are.
 pub const ROUNDS: u32 = 5;
 
 const SEE_BOTH: &[Access] = &[Access::Get { key: "comment" }, Access::Get { key: "photo" }];
@@ -46,7 +46,7 @@ pub const ROLES: [Role; 4] = [
     Role {
         session: "alice",
         replica: Replica::Near,
-        turns: &[Turn {
+        turns: &[PlannedTxn {
             round: 1,
             accesses: &[Access::Put {
                 key: "photo",
@@ -58,7 +58,7 @@ pub const ROLES: [Role; 4] = [
     Role {
         session: "bob",
         replica: Replica::Near,
-        turns: &[Turn {
+        turns: &[PlannedTxn {
             round: 2,
             accesses: &[
                 Access::Get { key: "photo" },
@@ -74,15 +74,15 @@ pub const ROLES: [Role; 4] = [
         session: "carol",
         replica: Replica::Far,
         turns: &[
-            Turn {
+            PlannedTxn {
                 round: 3,
                 accesses: SEE_BOTH,
             },
-            Turn {
+            PlannedTxn {
                 round: 4,
                 accesses: SEE_BOTH,
             },
-            Turn {
+            PlannedTxn {
                 round: 5,
                 accesses: SEE_BOTH,
             },
@@ -91,7 +91,7 @@ pub const ROLES: [Role; 4] = [
     Role {
         session: "dave",
         replica: Replica::Near,
-        turns: &[Turn {
+        turns: &[PlannedTxn {
             round: 3,
             accesses: SEE_BOTH,
         }],

@@ -56,7 +56,7 @@ impl Store {
         value
     }
 
-    /// Writes a value in this round. The near replica has it from the next round on, the far one so many rounds later.
+    /// Writes a value in this round. The near replica has it from the next round on, the far one `late` rounds later.
     pub fn put(&mut self, key: Name, value: u64, round: u32, late: u32) -> Result<(), NoMemory> {
         let near = round.saturating_add(1);
         self.versions.push(Version {

@@ -21,7 +21,7 @@ use Rattle.tcc_rows.specs.Past.{fault_within, item_of}
 use Rattle.tcc_rows.specs.RecordsLeft.{HasLeft, record_of}
 use Rattle.tcc_rows.specs.private.Stages.{TakesRecord, Counts, IsAtLine, TakesFields, TakesLine}
 use Rattle.tcc_rows.specs.Reached.{StandsIn, row_in, row_reached}
-use Rattle.tcc_rows.specs.Standing.{IsAfter}
+use Rattle.tcc_rows.specs.SessionStates.{IsAfter}
 use Rattle.tcc_rows.specs.private.Passing.{PassesOperation}
 use Rattle.tcc_rows.specs.declared.rows.Item.{Item}
 use Rattle.tcc_rows.specs.declared.rows.Item.TheVariants as item
@@ -107,9 +107,9 @@ module _ (limits : Limits) where
       → IfSome (remaining reader) (λ text. HasLeft remaining records (records_within limits text)) → records.count ≡ 0 → records.stage ≡ records_stage.Going
       → IfSome (remaining reader) (λ text. StandsIn remaining records (records_within limits text))
   all-left remaining reader records has none going =
-      if-some (remaining reader) (λ text left. record { first = []; left = records_within limits text; whole = refl; counted = none; rest = left; going = going }) has
+      if-some (remaining reader) (λ text left. record { first = []; left = records_within limits text; whole = refl; counted = none; rest = left; last = λ some. absurd (omega (arith, none, some)); going = going }) has
 
-  -- what comes of one more record, by what is judged of it
+  -- the result of one more record, by what it is judged to be
   lawful : (past : List Line) (fields : Record) (rest : List Record) (last : Line) → judged_within limits past fields ≡ Ok last
       → answers_after_within limits past (fields ∷ rest) ≡ after_item (item_of past last) (answers_after_within limits (last ∷ past) rest)
   lawful past fields rest last e = rw e refl
@@ -141,7 +141,7 @@ module _ (limits : Limits) where
         answers = refl;
       }
 
-  -- what is judged of a record that the limit does not cut, by its line
+  -- the judgement of a record that the limit does not cut, by its line
   pub judged-lawful : (past : List Line) (fields : Record) (last : Line) → is_cut fields ≡ false → line_of fields ≡ Ok last → fault_within limits past last ≡ None
       → judged_within limits past fields ≡ Ok last
   judged-lawful past fields last whole e free = rw (whole, e, free) refl
@@ -154,7 +154,7 @@ module _ (limits : Limits) where
   pub judged-unlawful : (past : List Line) (fields : Record) (k : RowFaultKind) → is_cut fields ≡ false → line_of fields ≡ Err k → judged_within limits past fields ≡ Err k
   judged-unlawful past fields k whole e = rw (whole, e) refl
 
-  -- what is judged of a record that is no operation that can be passed
+  -- the judgement of a record that is not an operation that can be passed
   pub judged-refused : (past : List Line) (fields : Record) (k : RowFaultKind) (p : Progress) → is_cut fields ≡ false
       → PassesOperation {U = Unit {0}} limits past fields (Err k) p
       → (judged_within limits past fields ≡ Err k) ⊎ (k ≡ kind.NoMemory)
@@ -189,7 +189,7 @@ module _ (limits : Limits) where
       let going : records.stage ≡ records_stage.Going = counts.2 ∙ reading.going in
       rw going (counts.0 ∙ ap (λ n. n + 1) reading.counted)
 
-  -- a record was met that has a fault, or memory was refused
+  -- a record was read that has a fault, or memory was refused
   pub record-refused : {R : Type 0} (remaining : R → Option (List ℕ)) (old : Rows R) (records : Records R) (ahead : Answers)
       (reading : IsMidway limits remaining old ahead)
       → TakesRecord remaining reading.left true records → Counts {E = RowFaultKind} old.records (Ok true) records
@@ -210,7 +210,7 @@ module _ (limits : Limits) where
       let row : row_in records.stage records.count ≡ length reading.past + 1 = rw counts.1 (omega (arith, counts.0, reading.counted, reading.fits)) in
       inr (failure, reading.past, reading.left, reading.answers, row)
 
-  -- two lists of the records that a reader has left are one
+  -- two lists of the records that a reader has left are equal
   same-left : {R : Type 0} (remaining : R → Option (List ℕ)) (records : Records R) (xs ys : List Record) → HasLeft remaining records xs
       → HasLeft remaining records ys → xs ≡ ys
   same-left remaining records xs ys one two = (let both : ◌≡◌ {A = Option (List Record)} (Some xs) (Some ys) = sym one.known ∙ two.known in cc both)
@@ -234,7 +234,7 @@ module _ (limits : Limits) where
       → Counts {E = RowFaultKind} old.records (Ok false) records → row_in records.stage records.count ≡ length reading.past
   row-ended remaining old records ahead reading counts = rw counts.1 (counts.0 ∙ reading.counted)
 
-  -- the line was met of the record that was read
+  -- the line of the record that was read is reached
   pub line-met : {R : Type 0} (remaining : R → Option (List ℕ)) (old new : Rows R) (records : Records R) (ahead : Answers)
       (reading : IsMidway limits remaining old ahead)
       → TakesRecord remaining reading.left true records → Counts {E = RowFaultKind} old.records (Ok true) records → new.records ≡ records
@@ -260,7 +260,7 @@ module _ (limits : Limits) where
       → row_reached at ≡ length here.past + 1
   row-at remaining at ahead last here = rw here.going here.counted
 
-  -- one more line, whatever comes of it
+  -- one more line, whatever its result
   pub line-taken : {R : Type 0} (remaining : R → Option (List ℕ)) (at new : Rows R) (ahead : Answers) (last : Line) (here : IsAtLine limits remaining at ahead last)
       → new.records ≡ at.records → (result : Result (Option Item) RowFault) → TakesFields limits here.past here.fields result new
       → TakesLine limits remaining ahead result new
@@ -301,7 +301,7 @@ module _ (limits : Limits) where
           inl (here.answers ∙ faulty here.past here.fields here.left fault.kind wrong ∙ ap (λ f. ending (Some f)) same_fault)
       by (Err fault) (inr want, row) = inr (inr want, here.past, here.fields ∷ here.left, here.answers, row)
 
-  -- the end of the records, whatever comes of it
+  -- the end of the records, whatever its result
   pub end-taken : {R : Type 0} (remaining : R → Option (List ℕ)) (new : Rows R) (ahead : Answers) (past : List Line)
       → ahead ≡ answers_after_within limits past [] → (result : Result (Option Item) RowFault)
       → IfErr result (λ fault. fault_at_end past ≡ Some fault) → OnOk result (fault_at_end past ≡ None) → IfOk result (λ given. given ≡ Some item.End)
@@ -313,7 +313,7 @@ module _ (limits : Limits) where
       by (Ok given) unfinished closed end = rw end (answers ∙ ap ending closed)
       by (Err fault) unfinished closed end = inl (answers ∙ ap ending unfinished)
 
-  -- what the end of the records shows after any lines, it shows after these
+  -- the fault that the end of the records has after any lines, it has after these
   pub closed-after : {E : Type 0} (result : Result (Option Item) E) (p : Progress) (past : List Line) → IsAfter limits past p
       → OnOk result ((given : Limits) (lines : List Line) → IsAfter given lines p → fault_at_end lines ≡ None) → OnOk result (fault_at_end past ≡ None)
   closed-after (Ok given) p past is all = all limits past is

@@ -1,4 +1,4 @@
--- What the small limits take, the large ones take too, and answer alike.
+-- What the small limits accept, the large ones accept too, with the same answers.
 use Rattle.std.proofs.Common.{◌≡◌, ℕ, zero, suc, ◌-◌, ◌<◌, ◌≤◌, Bool, true, false, not, cond, List, [], ◌∷◌, length, take, refl, sym, ap, subst, ◌∙◌, arith}
 use Rattle.std.proofs.Common.{Option, None, Some, Result, Ok, Err, nat_lt, ◌⊎◌, inl, inr}
 use Rattle.std.specs.Prelude.{option_map}
@@ -27,12 +27,12 @@ use Rattle.tcc_rows.proofs.PastLimit.{faulty, kept-fault}
 
 -- ---- one line
 
--- some kind that is past a limit
+-- some kind of fault that is above a limit
 abbrev is_limits : Option RowFaultKind → Bool
 is_limits None = false
 is_limits (Some k) = is_beyond_small k
 
--- the test of a limit, and what comes behind it
+-- the test of a limit, and the tests after it
 at-limit : (small large n : ℕ) (k : RowFaultKind) (x y : Option RowFaultKind) → small ≤ large → is_beyond_small k ≡ true
     → (is_limits x ≡ false → y ≡ x) → is_limits (cond (nat_lt small n) (Some k) x) ≡ false
     → cond (nat_lt large n) (Some k) y ≡ cond (nat_lt small n) (Some k) x
@@ -43,7 +43,7 @@ at-limit small large n k x y less past more e = by (nat_lt small n) (nat_lt larg
     by false false is over e = more e
     by false true is over e = absurd (grind (arith, nat_tests))
 
--- a test that both have
+-- a test that both share
 at-both : (b : Bool) (k : RowFaultKind) (x y : Option RowFaultKind) → (is_limits x ≡ false → y ≡ x) → is_limits (cond b (Some k) x) ≡ false
     → cond b (Some k) y ≡ cond b (Some k) x
 at-both true k x y more e = refl
@@ -111,7 +111,7 @@ same-after (fields ∷ rest) past e =
         = ap ends_beyond_small (sym (kept-fault (item_of past last) (answers_after_within Small (last ∷ past) rest))) ∙ e in
         rw (judged refl) (ap (after_item (item_of past last)) (more (last ∷ past) none))
 
--- a text within the small limit on bytes has the same records within both
+-- a text within the small limit on bytes has the same records under both limits
 same-records : (text : List ℕ) → length text ≤ MAX_INPUT_BYTES → records_within Large text ≡ records_of text
 same-records text short =
     let small : marked (most_bytes Small) text ≡ text = marked-within MAX_INPUT_BYTES text short in
@@ -121,7 +121,7 @@ same-records text short =
 pub same-kept : (text : List ℕ) → KeepsSmall text → answers_within Large text ≡ answers_of text
 same-kept text keeps = ap settled (ap (answers_after_within Large []) (same-records text keeps.0) ∙ same-after (records_of text) [] keeps.1)
 
--- where there is no fault there are not too many bytes
+-- a text without a fault has not too many bytes
 pub lawful-kept : (text : List ℕ) → (answers_of text).fault ≡ None → KeepsSmall text
 lawful-kept text none = by (cases_lt MAX_INPUT_BYTES (length text))
   where
@@ -155,7 +155,7 @@ lawful-small (suc n) (fields ∷ rest) past e (last, is, lawful) =
         = subst (λ (x : Line). ends_beyond_small (after_item (item_of past x) (answers_after_within Small (x ∷ past) rest)).fault ≡ false) one e in
         (last, found ∙ both, more (ap ends_beyond_small (sym (kept-fault (item_of past last) (answers_after_within Small (last ∷ past) rest))) ∙ none))
 
--- lawful records end with an unfinished transaction at most
+-- at the end of lawful records the only fault can be an unfinished transaction
 lawful-end : (left : List Record) (past : List Line) → AreLawfulWithin Small past left → ends_beyond_small (answers_after_within Small past left).fault ≡ false
 lawful-end [] past lawful = by (least (open_sessions past))
   where
@@ -165,7 +165,7 @@ lawful-end [] past lawful = by (least (open_sessions past))
 lawful-end (fields ∷ rest) past (last, is, lawful) =
     rw is (ap ends_beyond_small (kept-fault (item_of past last) (answers_after_within Small (last ∷ past) rest)) ∙ lawful-end rest (last ∷ past) lawful)
 
--- the reading of such a text fails at the same rows within both, after the same items
+-- the reading of such a text fails at the same rows under both limits, after the same items
 module _ (text : List ℕ) (keeps : KeepsSmall text) where
   pub fails-small : (row : ℕ) → FailsAtWithin Large row (records_within Large text) → FailsAtWithin Small row (records_of text)
   fails-small row fails =

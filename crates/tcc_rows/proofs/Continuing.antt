@@ -20,7 +20,7 @@ pub nested_items : (s : Sessions) (items : List Item) → IsNested s (fold with_
 nested_items s [] = nested_itself s
 nested_items s (i ∷ items) = nested_on s (with_item s i) (fold with_item (with_item s i) items) (nested_item s i) (nested_items (with_item s i) items)
 
--- what more items finish continues what some did
+-- what some items finish is continued by what they finish with more items
 pub nested_finished : (items more : List Item) → IsNested (finished_in items) (finished_in (items ++ more))
 nested_finished items more =
     subst (λ (z : Sessions). IsNested (finished_in items) z) (sym (fold-append with_item empty items more)) (nested_items (finished_in items) more)

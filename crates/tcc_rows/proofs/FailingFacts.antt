@@ -1,4 +1,4 @@
--- What was taken where the reading of a text fails are the items of the records before.
+-- If the reading of a text fails, the items taken are those of the records before.
 use Rattle.std.proofs.Common.{◌≡◌, ℕ, suc, ◌+◌, ◌-◌, ◌≤◌, ◌<◌, ◌⊎◌, inl, inr, Bool, true, false, not, cond, List, [], ◌∷◌, ◌++◌}
 use Rattle.std.proofs.Common.{length, take, drop, refl, sym, ap, subst, ◌∙◌, arith, Option, None, Some, Result, Ok, Err}
 use Rattle.std.proofs.Common.{length-append, nat_lt}
@@ -32,13 +32,13 @@ use Rattle.tcc_rows.specs.Line.{Line}
 use Rattle.tcc_rows.specs.Line as line
 use Rattle.tcc_rows.proofs.Interleaving.{judged-line}
 
--- ---- no record by itself is an unfinished transaction
+-- ---- no single record has the fault of an unfinished transaction
 
 abbrev at_end : RowFaultKind → Bool
 at_end (kind.Unfinished session) = true
 at_end _ = false
 
--- whatever comes of it, it is no fault of the end
+-- whatever the result, it is not the fault of the end
 abbrev is_of_record : {A : Type 0} → Result A RowFaultKind → Bool
 is_of_record (Ok a) = true
 is_of_record (Err k) = not (at_end k)
@@ -79,7 +79,7 @@ line-of_record (session ∷ word ∷ key ∷ value ∷ []) =
     (in-of_record session _ (op-of_record true key value)) refl))
 line-of_record (a ∷ b ∷ c ∷ d ∷ e ∷ more) = refl
 
--- no kind, or one that does not come at the end of the input
+-- no kind, or one that is not the kind at the end of the input
 abbrev none_at_end : Option RowFaultKind → Bool
 none_at_end None = true
 none_at_end (Some k) = not (at_end k)
@@ -128,9 +128,9 @@ module _ (limits : Limits) where
           let after : judged_within limits past fields ≡ option_map_or Err (fault_within limits past found) (Ok found) = rw (whole, is) refl in
           of found (fault_within limits past found) (fault-of_record past found) (sym after ∙ e)
 
-  -- ---- where the fault of some answers stands
+  -- ---- at which row the fault of some answers is
 
-  -- a fault that records show stands behind the lines before them
+  -- a fault that records show is at a row after the lines before them, unless it is the fault of the end
   abbrev StandsBehind : ℕ → Option RowFault → Type 0
   StandsBehind n None = Unit {0}
   StandsBehind n (Some fault) = (at_end fault.kind ≡ true) ⊎ (n < fault.row)
@@ -160,7 +160,7 @@ module _ (limits : Limits) where
           subst (StandsBehind (length past)) (sym (same-fault (item_of past last) (answers_after_within limits (last ∷ past) rest)))
           (earlier (length past) _ (next (last ∷ past)))
 
-  -- the fault of a record is none of the answers to what follows it, or something later
+  -- the fault of a record is not among the answers to what follows it, or is at a later row
   not-later : (n row : ℕ) (k : RowFaultKind) (o : Option RowFault) → o ≡ Some (record { row = row; kind = k }) → at_end k ≡ false → row ≤ n → StandsBehind n o → ⊥
   not-later n row k None e record_fault early b = cc e
   not-later n row k (Some fault) e record_fault early b =
@@ -171,13 +171,13 @@ module _ (limits : Limits) where
       by (inl e) = cc (e, record_fault)
       by (inr l) = absurd (omega (arith, l, early))
 
-  -- ---- as many items, and as many seals, whatever the lines before
+  -- ---- the number of items, and of seals, does not depend on the lines before
 
   same-line : (p q : List Line) (fields : Record) (l m : Line) → judged_within limits p fields ≡ Ok l → judged_within limits q fields ≡ Ok m → l ≡ m
   same-line p q fields l m e f =
       (let both : ◌≡◌ {A = Result Line RowFaultKind} (Ok l) (Ok m) = sym (judged-line limits p fields l e) ∙ judged-line limits q fields m f in cc both)
 
-  -- what is the same of the items of each line is the same of all
+  -- what is the same for the items of each line is the same for all
   module _ {X : Type 0} (of_items : List Item → X) (one : (p q : List Line) (l : Line) (a b : Answers) → of_items a.items ≡ of_items b.items
       → of_items (after_item (item_of p l) a).items ≡ of_items (after_item (item_of q l) b).items) where
     as-same : (left : List Record) (p q : List Line) → length p ≡ length q → (answers_after_within limits p left).fault ≡ (answers_after_within limits q left).fault
@@ -232,7 +232,7 @@ module _ (limits : Limits) where
 
   -- ---- the records before the row
 
-  -- where the answers end as others do that come later, the first records are lawful, and their items come first
+  -- if the answers end as others do that come later, the first records are lawful, and their items come first
   record Split (q : List Line) (first left : List Record) (n : ℕ) : Type 0 where
     lawful : AreLawfulWithin limits q first
     lines : List Line

@@ -6,7 +6,7 @@ use Rattle.std.proofs.lemmas.Bool.Decides.{nat_tests}
 use Rattle.csv.specs.Records.{cut_from}
 use Rattle.tcc_rows.specs.ByteLimit.{past_limit}
 
--- where neither of two tests holds, the first fails
+-- if neither of two tests holds, the first fails
 neither-first : (a b : Bool) → (a || b) ≡ false → a ≡ false
 neither-first true b e = e
 neither-first false b e = refl
@@ -26,7 +26,7 @@ none-drop test zero xs e = e
 none-drop test (suc n) [] e = refl
 none-drop test (suc n) (x ∷ xs) e = none-drop test n xs (neither-second (test x) _ e)
 
--- what no byte of the text is, no byte of a field is
+-- a byte that the text lacks is in no field
 pub none-cut : (test : ℕ → Bool) (start : ℕ) (ends bytes : List ℕ) → list_any test bytes ≡ false → list_any (list_any test) (cut_from start ends bytes) ≡ false
 unfolding cut_from
 none-cut test start [] bytes e = refl
@@ -36,7 +36,7 @@ none-cut test start (end ∷ ends) bytes e =
 no-mark : (x : ℕ) → x < 256 → (x == past_limit) ≡ false
 no-mark x h = grind (arith, nat_tests)
 
--- bytes are no marks
+-- bytes are not marks
 pub none-marked : (bytes : List ℕ) → ((k : ℕ) → get_or bytes k 0 < 256) → list_any (λ byte. byte == past_limit) bytes ≡ false
 none-marked [] small = refl
 none-marked (x ∷ xs) small = rw (no-mark x (small 0)) (none-marked xs (λ k. small (suc k)))

@@ -1,5 +1,5 @@
--- What lawful lines finish keeps the limits of a snapshot, also with all whose outcome nobody told: each such transaction was begun, and each
--- session with one has begun one.
+-- What lawful lines finish keeps the limits of a snapshot, even with all transactions of unknown outcome. Each such
+-- transaction was begun, and each session with one has begun one.
 use Rattle.std.proofs.Common.{◌≡◌, ℕ, ◌+◌, ◌-◌, ◌≤◌, Bool, true, false, cond, ◌||◌, T, List, [], ◌∷◌, ◌++◌, map, length, sum_by}
 use Rattle.std.proofs.Common.{refl, sym, ap, subst, ◌∙◌, arith, Option, None, Some, Result, Ok, Err, append_assoc, append-nil}
 use Rattle.std.proofs.Common.{nat_lt}
@@ -71,7 +71,7 @@ no-fewer_transactions s (item.Unknown session txn ∷ items) = no-fewer_transact
 no-fewer_transactions s (item.Seal ∷ items) = no-fewer_transactions s items
 no-fewer_transactions s (item.End ∷ items) = no-fewer_transactions s items
 
--- the items of some lines, which stand newest first
+-- the items of some lines, newest line first
 abbrev pub pushed : Option Item → List Item → List Item
 pushed None items = items
 pushed (Some last) items = items ++ last ∷ []
@@ -83,7 +83,7 @@ items_in (last ∷ past) = pushed (item_of past last) (items_in past)
 abbrev pub finished_by : List Line → Sessions
 finished_by past = finished_in (items_in past)
 
--- what some items finish, where all whose outcome nobody told count as committed
+-- what some items finish, if all with unknown outcome count as committed
 abbrev pub with_any : Sessions → Item → Sessions
 with_any s (item.Finished session txn) = with_transaction s session txn
 with_any s (item.Unknown session txn) = with_transaction s session txn
@@ -102,12 +102,12 @@ all_in-push xs x = all_in-append xs (x ∷ [])
 abbrev all_by : List Line → Sessions
 all_by past = all_in (items_in past)
 
--- a faultless line of a session that hasn't ended
+-- a line without a fault, of a session that hasn't ended
 pub late-free : {X : Type 0} (a : Bool) (x : X) (y : Option X) → cond a (Some x) y ≡ None → (a ≡ false) × (y ≡ None)
 late-free true x y e = cc
 late-free false x y e = (refl, e)
 
--- a faultless begin
+-- a begin without a fault
 pub no-begin-fault : {X : Type 0} (a b c : Bool) (x y z : X) → cond a (Some x) (cond b (Some y) (cond c (Some z) None)) ≡ None
     → (a ≡ false) × (b ≡ false) × (c ≡ false)
 no-begin-fault true b c x y z e = cc
@@ -199,7 +199,7 @@ any-same : (q : List ℕ) (names : List (List ℕ)) → list_any (eq_by_cmp name
 any-same q [] = refl
 any-same q (name ∷ names) = λ i. sym (texts_ties q name) i || any-same q names i
 
--- what keeps the limits is no fault of a snapshot
+-- what keeps the limits is not a fault of a snapshot
 all-at : {X : Type 0} (P : X → Type 0) (front : List X) (x : X) (back : List X) → AllByRecursion P (front ++ x ∷ back) → P x
 all-at P [] x back all = all.0
 all-at P (y ∷ front) x back all = all-at P front x back all.1
@@ -376,7 +376,7 @@ module _ (limits : Limits) where
       let transactions = begun-finished past lawful finite.empty (λ q h. absurd (nothing-empty q h)) in
       (omega (arith, few-finished past lawful, few_seated past lawful), omega (arith, transactions, few_begun past lawful))
 
-  -- a record that is taken is lawful
+  -- a record that is accepted is lawful
   pub judged-free : (past : List Line) (fields : Record) (last : Line) → judged_within limits past fields ≡ Ok last → fault_within limits past last ≡ None
   judged-free past fields last = by (is_cut fields) (line_of fields) refl refl
     where
@@ -407,7 +407,7 @@ module _ (limits : Limits) where
       by (Err k) e next = subst (λ items. IsWithinLimits limits (all_in items)) (sym (append-nil (items_in past))) (lawful-limits past lawful)
       by (Ok last) e next = more (item_of past last) (answers_after_within limits (last ∷ past) rest) (next (last ∷ past) (judged-free past fields last e, lawful))
 
-  -- what a text's records finish keeps the limits of a snapshot, also with all whose outcome nobody told
+  -- what a text's records finish keeps the limits of a snapshot, even with all of unknown outcome
   pub all-limits : (text : List ℕ) → IsWithinLimits limits (all_in (given_within limits text).items)
   all-limits text = limits-after (records_within limits text) [] tt
 

@@ -1,4 +1,4 @@
--- Records without a fault have none however they are interleaved.
+-- Records without a fault have none, however they are interleaved.
 use Rattle.std.proofs.Common.{◌≡◌, ℕ, zero, suc, ◌+◌, ◌≤◌, Bool, true, false, not, cond, ◌||◌, List, [], ◌∷◌, ◌++◌}
 use Rattle.std.proofs.Common.{filter, length, refl, sym, ap, subst, ◌∙◌, arith, Option, None, Some, Result, Ok, Err}
 use Rattle.std.proofs.Common.{nat_lt}
@@ -38,12 +38,12 @@ use Rattle.tcc_rows.proofs.PastFacts.{begun-seen, same-itself, same-name, seen-n
 
 -- ---- the lines of one session among all
 
--- the line is one of the session, or of none where none is asked for
+-- the line is one of the session, or of no session if none is given
 abbrev stands : Option (List ℕ) → Line → Bool
 stands None = seals
 stands (Some q) = does q
 
--- whose line it is
+-- the session of the line
 abbrev owner : Line → Option (List ℕ)
 owner line.Seal = None
 owner (line.Begin session) = Some session
@@ -70,7 +70,7 @@ only-owner (Some q) (line.Finish session committed) e = ap Some (sym (same-name 
 only-owner (Some q) (line.Unknown session) e = ap Some (sym (same-name session q e))
 only-owner (Some q) (line.Operation session op) e = ap Some (sym (same-name session q e))
 
--- each session has the same lines in both, and so have seals
+-- each session has the same lines in both, and so have the seals
 abbrev AreSame : List Line → List Line → Type 0
 AreSame some other = (o : Option (List ℕ)) → filter (stands o) some ≡ filter (stands o) other
 
@@ -86,7 +86,7 @@ taken-out {X} p (y ∷ ys) x rest e = by (p y) refl e (taken-out p ys x rest)
     by true t e more = let here : y ≡ x = cc e in let after : filter p ys ≡ rest = cc e in ([], ys, ap (λ z. z ∷ ys) here, refl, after)
     by false t e more = let (front, back, is, none, after) = more e in (y ∷ front, back, ap (λ zs. y ∷ zs) is, drops p y front t ∙ none, after)
 
--- a begin counts wherever it stands
+-- a begin counts at any position
 begin-moved : (front : List Line) (x : Line) (back : List Line) → begin_count (front ++ x ∷ back) ≡ begin_count (x ∷ (front ++ back))
 begin-moved [] x back = refl
 begin-moved (y ∷ front) x back = ap (λ n. cond (begins y) (n + 1) n) (begin-moved front x back) ∙ by (begins y) (begins x) (begin_count (front ++ back))
@@ -97,7 +97,7 @@ begin-moved (y ∷ front) x back = ap (λ n. cond (begins y) (n + 1) n) (begin-m
     by false true n = refl
     by false false n = refl
 
--- what is left where the same line is taken out of both
+-- what is left when the same line is taken out of both
 left-same : (x : Line) (xs ys front back : List Line) → AreSame (x ∷ xs) ys → ys ≡ front ++ x ∷ back
     → filter (stands (owner x)) front ≡ [] → filter (stands (owner x)) back ≡ filter (stands (owner x)) xs → AreSame xs (front ++ back)
 left-same x xs ys front back same is none after o = by (stands o x) refl
@@ -208,7 +208,7 @@ had-keys q (line.Finish session committed ∷ past) = had-keys q past
 had-keys q (line.Unknown session ∷ past) = had-keys q past
 had-keys q (line.Operation session op ∷ past) = seen-by (op_key op) q (keys past) (list_any (has_key q) past) (had-keys q past)
 
--- one that passes is one of its session
+-- a line that passes is one of its session
 any-owned : (p : Line → Bool) (past : List Line) → list_any p past ≡ true → (o : Option (List ℕ)) × (list_any p (filter (stands o) past) ≡ true)
 any-owned p [] e = cc e
 any-owned p (l ∷ past) e = by (p l) refl e (any-owned p past)
@@ -253,7 +253,7 @@ few-keys some other same =
 
 -- ---- lines that are lawful after those of their session
 
--- the line may follow where its session has begun a transaction or not, with these operations so far
+-- the line may follow, by whether its session has begun a transaction and by its operations so far
 abbrev FollowsIn : Bool → List Op → Line → Type 0
 FollowsIn begun ops line.Seal = Unit {0}
 FollowsIn begun ops (line.Begin session) = begun ≡ false
@@ -558,7 +558,7 @@ clean-before (fields ∷ rest) past clean = by (clean.each fields (0, omega arit
         } in
         rw (judged-as past fields last whole is free) (same-fault (item_of past last) (answers_after (last ∷ past) rest) ∙ next (last ∷ past) after)
 
--- whose record it is, of two lists alike
+-- a record in the one of two such lists is in the other
 contained-same : (some other : List Record) → AreInterleaved some other → records_by_none some ≡ records_by_none other
     → (fields : Record) → Contains other fields → Contains some fields
 contained-same some other same none fields inside = by fields refl
@@ -571,7 +571,7 @@ contained-same some other same none fields inside = by fields refl
     by (word ∷ []) is = through is_by_none none (ap is_by_none is)
     by (session ∷ word ∷ rest) is = through (is_by session) (same session) (ap (is_by session) is ∙ same-itself session)
 
--- no line without a session but of a record without one
+-- only a record without a session has a line without one
 sealed-operation : (session : List ℕ) (r : Result Op RowFaultKind) (l : Line) → in_session session r ≡ Ok l → seals l ≡ false
 sealed-operation session (Ok op) l e = let at : line.Operation session op ≡ l = cc e in rw (← at) refl
 sealed-operation session (Err k) l e = cc e

@@ -41,12 +41,12 @@ abbrev pub noted : Result Line RowFaultKind → List Line → List Line
 noted (Ok last) past = last ∷ past
 noted (Err k) past = past
 
--- the lines of records, newest first, behind others
+-- the lines of records, newest first, after others
 abbrev pub lines_after : List Line → List Record → List Line
 lines_after past [] = past
 lines_after past (fields ∷ rest) = lines_after (noted (line_of fields) past) rest
 
--- whose line it is, by its record
+-- the session of a line, by its record
 operation-of : (q session : List ℕ) (r : Result Op RowFaultKind) (l : Line) → in_session session r ≡ Ok l → does q l ≡ same session q
 operation-of q session (Ok op) l e = let at : line.Operation session op ≡ l = cc e in rw (← at) refl
 operation-of q session (Err k) l e = cc e
@@ -118,7 +118,7 @@ same-lines some other interleaved = λ q.
 
 -- ---- what lines say of a session
 
--- a list with one more, where there is one to add
+-- a list with one more element, if there is one to add
 abbrev one_more : Bool → Transaction → Option (List Transaction) → Option (List Transaction)
 one_more here txn list = cond here (Some (unwrap_or list [] ++ txn ∷ [])) list
 
@@ -130,14 +130,15 @@ done q (line.Finish s committed ∷ past) = one_more (same s q) (record { ops = 
 done q (line.Unknown s ∷ past) = done q past
 done q (line.Operation s op ∷ past) = done q past
 
--- what lines say of a session: whether it has begun a transaction, its operations since its last mark, and what it has finished
+-- what lines say of a session: whether it has begun a transaction, its operations since its last mark, and what it has
+-- finished
 abbrev Said : Type 0
 Said = Bool × List Op × Option (List Transaction)
 
 abbrev said : List ℕ → List Line → Said
 said q past = (is_begun q past, ops_since q past, done q past)
 
--- what one more line makes of that
+-- the same after one more line
 abbrev after_line : List ℕ → Line → Said → Said
 after_line q line.Seal x = (x.0, x.1 ++ [], x.2)
 after_line q (line.Begin s) x = (cond (same s q) true x.0, cond (same s q) [] (x.1 ++ []), x.2)
@@ -159,7 +160,7 @@ said-line q (line.Operation s op) past = refl
 nothing-more : (x : Said) → (x.0, x.1 ++ [], x.2) ≡ x
 nothing-more x = λ i. (x.0, append-nil x.1 i, x.2)
 
--- the lines of others change nothing of it
+-- lines of other sessions change nothing of it
 said-other : (q : List ℕ) (l : Line) (x : Said) → does q l ≡ false → after_line q l x ≡ x
 said-other q line.Seal x e = nothing-more x
 said-other q (line.Begin s) x e = rw e (nothing-more x)

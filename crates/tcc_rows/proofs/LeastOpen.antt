@@ -13,7 +13,7 @@ use Rattle.std.proofs.lemmas.List.Elements.{All-head, All-tail}
 use Rattle.tcc_txn.specs.Bytes.{same}
 use Rattle.tcc_rows.specs.Past.{is_begun, least, lesser, open_sessions, ops_since, sessions}
 use Rattle.tcc_rows.specs.Seats.{Seats, seat_at}
-use Rattle.tcc_rows.specs.Standing.{HoldsSeats}
+use Rattle.tcc_rows.specs.SessionStates.{HoldsSeats}
 use Rattle.tcc_rows.specs.private.Passing.{lower}
 use Rattle.tcc_txn.specs.declared.limits.Limits.{Limits}
 use Rattle.tcc_txn.specs.declared.op.Op.{Op}
@@ -31,7 +31,7 @@ itself-equal Greater e = cc e
 name_cmp-itself : (a : List ℕ) → name_cmp a a ≡ Equal
 name_cmp-itself a = itself-equal _ (nat_list_cmp_total.antisymm a a)
 
--- the lesser of two is the first, where the first is not above the second
+-- the lesser of two is the first, if the first is not above the second
 lesser-first : (a b : List ℕ) → name_cmp a b ≢ Greater → lesser a b ≡ a
 lesser-first a b not_above = by (name_cmp a b) refl
   where
@@ -40,7 +40,7 @@ lesser-first a b not_above = by (name_cmp a b) refl
     by Equal e = rw e refl
     by Greater e = absurd (not_above e)
 
--- the lesser of two names is the second, where that is not above the first
+-- the lesser of two names is the second, if that is not above the first
 lesser-second : (a b : List ℕ) → name_cmp b a ≢ Greater → lesser a b ≡ b
 lesser-second a b not_above = by (name_cmp a b) refl
   where
@@ -58,7 +58,7 @@ lesser-one P a b p q = by (name_cmp a b) refl
     by Equal e = rw e p
     by Greater e = rw e q
 
--- the least of the names that pass a test passes it
+-- the least name that passes a test passes it
 least-passes : (test : List ℕ → Bool) (names : List (List ℕ)) (m : List ℕ) → least (filter test names) ≡ Some m → test m ≡ true
 least-passes test [] m e = cc e
 least-passes test (n ∷ ns) m e = by (test n) refl e (least-passes test ns)
@@ -74,7 +74,7 @@ least-passes test (n ∷ ns) m e = by (test n) refl e (least-passes test ns)
     by true here e more = of (least (filter test ns)) here more e
     by false there e more = more m e
 
--- a name that passes the test, is among the names, and is above none that passes, is the least one
+-- a name is the least one if it passes the test, is among the names, and is above none that passes
 pub least-is : (test : List ℕ → Bool) (s : List ℕ) (names : List (List ℕ)) → test s ≡ true → list_any (same s) names ≡ true
     → ((t : List ℕ) → test t ≡ true → name_cmp s t ≢ Greater) → least (filter test names) ≡ Some s
 least-is test s [] passes among below = cc among
@@ -136,7 +136,7 @@ lesser-up-to a b = by (name_cmp a b) refl
     by Equal e = rw e (up-to-itself a, λ above. cc (e, above))
     by Greater e = rw e (up-to-less b a (nat_list_cmp_total.antisymm b a ∙ ap ordering_reverse e), up-to-itself b)
 
--- whatever was least is still there to be under
+-- the new least name is not above the one before
 stays : (es : List Entry) (a : List ℕ) → (m : List ℕ) × (fold lower (Some a) es ≡ Some m) × IsUpTo m a
 stays [] a = (a, refl, up-to-itself a)
 stays ((name, None) ∷ es) a = stays es a
@@ -144,7 +144,7 @@ stays ((name, Some ops) ∷ es) a =
     let (m, found, under) = stays es (lesser a name) in
     (m, found, up-to-trans m (lesser a name) a under (lesser-up-to a name).0)
 
--- one that has begun is not below the least
+-- the least name is not above one that has begun
 least-under : (es : List Entry) (before : Option (List ℕ)) (t : List ℕ) (ops : List Op) → lookup (same t) es ≡ Some (Some ops)
     → (m : List ℕ) × (fold lower before es ≡ Some m) × IsUpTo m t
 least-under [] before t ops look = cc look
@@ -163,7 +163,7 @@ least-under ((name, begun) ∷ es) before t ops look = by (same t name) begun re
     by true (Some begun) at look more = here before (same-name t name at)
     by false begun apart look more = more (lower before (name, begun)) look
 
--- where the entry has begun, its session is such
+-- if the entry has begun, the property holds for its session
 abbrev BegunIs : (List ℕ → Type 0) → Entry → Type 0
 BegunIs P e = is_some e.1 ≡ true → P e.0
 
@@ -180,7 +180,7 @@ least-begun P ((name, Some ops) ∷ es) (Some b) m was each e =
     least-begun P es (Some (lesser b name)) m (λ a at. let one : lesser b name ≡ a = cc at in rw (← one) here) (All-tail (BegunIs P) (name, Some ops) es each) e
 
 module _ (limits : Limits) where
-  -- a session that has begun a transaction has the seat of one
+  -- a session that has begun a transaction has a seat with one
   begun-seat : (t : List ℕ) (past : List Line) (seats : Seats) → HoldsSeats limits past seats → is_begun t past ≡ true
       → seat_at seats t ≡ Some (Some (ops_since t past))
   begun-seat t past seats holds begun = holds.each t ∙ rw begun refl
@@ -189,7 +189,7 @@ module _ (limits : Limits) where
   open-taken None e = cc e
   open-taken (Some ops) e = (ops, refl)
 
-  -- an entry of one that has begun
+  -- an entry whose session has begun
   entry-begun : (past : List Line) (seats : Seats) → HoldsSeats limits past seats → (e : Entry) → seat_at seats e.0 ≡ Some e.1 → is_some e.1 ≡ true
       → is_begun e.0 past ≡ true
   entry-begun past seats holds e there is_open =

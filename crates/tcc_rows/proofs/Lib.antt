@@ -18,7 +18,7 @@ mod SealedAlike
 mod Settled
 mod SeatFacts
 mod SettlingLimits
-mod StandingFacts
+mod SessionStateFacts
 mod WorkedTexts
 mod WritesFacts
 pub mod BothLimits

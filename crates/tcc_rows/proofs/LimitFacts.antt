@@ -9,7 +9,7 @@ use lib.Seq.{take-append-le, take-append-add}
 use Rattle.std.specs.Io.KnownBytes.{Consumes, IsAtEnd, Keeps}
 use Rattle.tcc_rows.specs.ByteLimit.{marked, past_limit}
 
--- a text within the limit is as it is
+-- a text within the limit stays as it is
 pub marked-within : (limit : ℕ) (text : List ℕ) → length text ≤ limit → marked limit text ≡ text
 unfolding marked
 marked-within limit text short =
@@ -23,7 +23,7 @@ marked-past limit text long =
     let fits : nat_le (length text) limit ≡ false = grind (arith, nat_tests) in
     rw fits refl
 
--- bytes at the front that the limit lets through, where the others are within what is left of it, or not
+-- bytes at the front that the limit lets through, whether or not the others are within what is left of it
 append-within : (limit : ℕ) (front rest : List ℕ) → length front ≤ limit → length rest ≤ limit - length front
     → marked limit (front ++ rest) ≡ front ++ marked (limit - length front) rest
 append-within limit front rest within short =
@@ -47,7 +47,7 @@ marked-append limit front rest within =
 pub marked-nil : (limit : ℕ) → marked limit [] ≡ []
 marked-nil limit = marked-within limit [] zero-le
 
--- the end is the end under a limit
+-- the end is the end under a limit too
 pub at-end : (limit : ℕ) (known : Option (List ℕ)) → IsAtEnd known → IsAtEnd (option_map (marked limit) known)
 at-end limit None end = tt
 at-end limit (Some xs) end = ap (marked limit) end ∙ marked-nil limit
@@ -57,7 +57,7 @@ pub keeps-refl : (known : Option (List ℕ)) → Keeps known known
 keeps-refl None = tt
 keeps-refl (Some xs) = refl
 
--- bytes where the limit lets none through
+-- if the limit lets no bytes through, reading some leaves the mark
 pub past-limit-kept : (old new : Option (List ℕ)) (bytes : List ℕ) → 0 < length bytes → Consumes old new bytes
     → Keeps (option_map (marked 0) old) (option_map (λ _. past_limit ∷ []) new)
 past-limit-kept None new bytes some read = tt
@@ -82,7 +82,7 @@ limit-consumes (Some xs) (Some ys) part rest limit n fits within room read end =
       λ zero some. at-end (limit - n) (Some ys) (end zero (room some)),
     )
 
--- the end of the bytes is the end under a limit
+-- the end of the bytes is the end under a limit too
 pub end-consumes : (old new : Option (List ℕ)) (limit : ℕ) → Consumes old new [] → IsAtEnd new
     → Consumes (option_map (marked limit) old) (option_map (λ _. []) new) []
 end-consumes None new limit read end = tt

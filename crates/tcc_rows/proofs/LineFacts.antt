@@ -1,4 +1,4 @@
--- The fields of a record, and the number that a field writes.
+-- The fields of a record, and the number that a field denotes.
 use Rattle.std.proofs.Common.{◌≡◌, ℕ, zero, suc, ◌+◌, ◌*◌, ◌-◌, ◌<◌, ◌≤◌, ◌^◌, Bool, true, false, List, [], ◌∷◌}
 use Rattle.std.proofs.Common.{length, take, drop, get_or, refl, ap, rules, arith, cond, nat_lt, ltb, inl, inr}
 use Rattle.std.proofs.Common.{◌∙◌}
@@ -32,18 +32,18 @@ digits-by false b n h = refl
 below : (m n : ℕ) → nat_lt m n ≡ true → m < n
 below m n e = grind (arith, nat_tests)
 
--- what has another byte writes no number
+-- bytes with another byte than a digit denote no number
 pub digits_of-other : (bytes : List ℕ) → all_ascii_digits bytes ≡ false → digits_of bytes ≡ None
 digits_of-other [] other = refl
 digits_of-other (c ∷ cs) other = rw other refl
 
--- digits that write too much for 64 bits
+-- digits that denote more than 64 bits hold
 pub digits_of-large : (bytes : List ℕ) → 2 ^ 64 ≤ digits_value 10 bytes → digits_of bytes ≡ None
 digits_of-large [] large = refl
 digits_of-large (c ∷ cs) large =
     digits-by (all_ascii_digits (c ∷ cs)) (nat_lt (digits_value 10 (c ∷ cs)) (2 ^ 64)) _ (λ _ small. absurd (omega (arith, large, below _ _ small)))
 
--- digits for which 64 bits have room
+-- digits that 64 bits can hold
 pub digits_of-all : (bytes : List ℕ) (value : ℕ) → 0 < length bytes → all_ascii_digits bytes ≡ true → value ≡ digits_value 10 bytes → value < 2 ^ 64
     → Some value ≡ digits_of bytes
 digits_of-all [] value some digits is room = absurd (omega (arith, some))
@@ -75,14 +75,14 @@ value-more ds i value lt is so_far =
     let digit = digit-value (get_or ds i 0) bounds.0 bounds.1 in
     rw (digits_value_more 10 ds i lt, digit) (omega (arith, so_far))
 
--- at the end all are digits, and all are read
+-- at the end all bytes are digits, and all are read
 pub digits-whole : (ds : List ℕ) (i : ℕ) → length ds ≤ i → all_ascii_digits (drop i ds) ≡ true
 digits-whole ds i end = ap all_ascii_digits (drop_all i ds end) ∙ refl
 
 pub value-whole : (ds : List ℕ) (i : ℕ) → length ds ≤ i → digits_value 10 (take i ds) ≡ digits_value 10 ds
 value-whole ds i end = ap (digits_value 10) (take_all i ds end)
 
--- what some of the digits write has room, where all have it
+-- the number of a prefix of the digits fits, if the number of all digits fits
 pub value-large : (ds : List ℕ) (i : ℕ) → 2 ^ 64 ≤ digits_value 10 (take i ds) → 2 ^ 64 ≤ digits_value 10 ds
 value-large ds i large = omega (arith, large, digits_value-take-le 10 ds i (omega arith))
 
@@ -163,7 +163,7 @@ pub operation-line : (a b c d s : List ℕ) (writes : Bool) (op : Op) → sessio
     → line_of (a ∷ b ∷ c ∷ d ∷ []) ≡ Ok (line.Operation s op)
 operation-line a b c d s writes op session access e = accessed-line a b c d s writes session access ∙ ap (in_session s) e
 
--- what comes of an operation, of its line
+-- the result of an operation, from that of its line
 pub operation-passes : (limits : Limits) {U : Type 0} (past : List Line) (fields : Record) (session : List ℕ) (op : Op) (result : Result U RowFaultKind) (p : Progress)
     → line_of fields ≡ Ok (line.Operation session op) → PassesLine limits past (line.Operation session op) result p → PassesOperation limits past fields result p
 operation-passes limits past fields session op (Ok done) p lawful (free, is) = (session, op, lawful, free, is)

@@ -1,5 +1,5 @@
--- Whatever is sealed, what lawful lines finish in the end is what they tell, and of each session the transaction of unknown outcome of which a
--- value was read.
+-- Whatever is sealed, lawful lines finish two things in the end: what they say is finished, and each session's transaction of
+-- unknown outcome of which a value was read.
 use Rattle.std.proofs.Common.{◌≡◌, ℕ, ◌⊎◌, inl, inr, Bool, true, false, cond, not, ◌||◌, List, [], ◌∷◌, ◌++◌, filter, map, refl, sym, ap, subst, ◌∙◌}
 use Rattle.std.proofs.Common.{append_assoc, append-nil, Option, None, Some}
 use Rattle.std.specs.Prelude.{fold, unwrap_or}
@@ -61,7 +61,7 @@ unknown-kept q (l ∷ past) = by (does q l) refl (unknown-kept q past)
     by true e more = λ i. after_unknown q l (ops-kept q past i) (more i)
     by false e more = unknown-other q l (ops_since q past) (unknown q past) e ∙ more
 
--- a session that goes on has none
+-- a session that continues has none
 unended : (q : List ℕ) (past : List Line) → is_ended q past ≡ false → unknown q past ≡ None
 unended q [] e = refl
 unended q (line.Seal ∷ past) e = unended q past e
@@ -153,7 +153,7 @@ of_name-filter q test (x ∷ xs) = by (test x.1) (same x.0 q) refl refl (of_name
     by false true s t more = rw s more
     by false false s t more = more
 
--- ---- how what is held stands to what was told
+-- ---- how what is finished and what is pending relate to the known outcomes
 
 abbrev At : Sessions → Pending → Sessions → List ℕ → Option Transaction → Type 0
 At s pending all q None = (finite.get s q ≡ finite.get all q) × (of_name q pending ≡ [])
@@ -166,7 +166,7 @@ record Stands (past : List Line) (s : Sessions) (pending : Pending) (all : Sessi
   reads : (written : List ℕ × ℕ) → is_read s written ≡ is_read all written
   silent : IsSilent pending
 
--- a transaction whose end was told
+-- a transaction whose outcome is known
 at-told : (s all : Sessions) (pending : Pending) (q session : List ℕ) (txn : Transaction) (o : Option Transaction) → (same session q ≡ true → o ≡ None)
     → At s pending all q o → At (with_transaction s session txn) pending (with_transaction all session txn) q o
 at-told s all pending q session txn None free (got, none) = (
@@ -185,7 +185,7 @@ at-told s all pending q session txn (Some u) free at = by (same session q) refl 
     by false e (inr (got, none, seen)) =
         inr (other s e ∙ got ∙ ap (λ o. adds o (u ∷ [])) (sym (other all e)), none, seen-more all session txn u seen)
 
--- one whose outcome nobody told
+-- a transaction of unknown outcome
 at-unknown : (s all : Sessions) (pending : Pending) (q session : List ℕ) (ops : List Op) (mine : List Op) (o : Option Transaction)
     → (same session q ≡ true → (o ≡ None) × (ops ≡ mine)) → At s pending all q o
     → At s (pending ++ (session, left_with ops) ∷ []) all q (cond (same session q) (Some (left_with mine)) o)
@@ -340,7 +340,7 @@ module _ (limits : Limits) where
           → (list_any (reads_by w) (held_after finite.empty [] (items_in past)).1 || (reads_by w (s, left_with (ops_since s past)) || false)) ≡ false
       quiet w none = rw (none, writes-silent w (ops_since s past)) refl
 
-  -- what is finished in the end, by what was told
+  -- what is finished in the end, by the known outcomes
   abbrev settled_as : Sessions → Option Transaction → Option (List Transaction) → Option (List Transaction)
   settled_as all None found = found
   settled_as all (Some u) found = cond (is_seen all u) (adds found (u ∷ [])) found

@@ -11,12 +11,12 @@ use Rattle.std.proofs.lemmas.List.{append-nil}
 use Rattle.std.proofs.lemmas.Map.Steps.{list_any_congr}
 use Rattle.tcc_txn.specs.Bytes.{same}
 use Rattle.tcc_rows.specs.Past.{is_begun, ops_since, sessions, with_name}
-use Rattle.tcc_rows.specs.Standing.{seat, seat_of}
+use Rattle.tcc_rows.specs.SessionStates.{seat, seat_of}
 use Rattle.tcc_txn.specs.declared.op.Op.{Op}
 use Rattle.tcc_rows.specs.Line.{Line}
 use Rattle.tcc_rows.specs.Line as line
 
--- the order of names ties where their bytes are equal
+-- the order of names ties if their bytes are equal
 pub at-same : (a b : List ℕ) → is_at (slice_cmp nat_cmp a) b ≡ same a b
 at-same a b = sym (texts_ties a b)
 
@@ -33,7 +33,7 @@ with_name-seen name names seen = rw seen refl
 pub with_name-new : (name : List ℕ) (names : List (List ℕ)) → list_any (same name) names ≡ false → with_name name names ≡ name ∷ names
 with_name-new name names new = rw new refl
 
--- a name is seen once it is noted, and any other as before
+-- a name is seen once it is noted, and any other name as before
 pub seen-noted : (name q : List ℕ) (names : List (List ℕ)) → same name q ≡ true → list_any (same q) (with_name name names) ≡ true
 seen-noted name q names e = by (list_any (same name) names) refl
   where
@@ -127,7 +127,7 @@ equal-from Less e = cc e
 equal-from Equal e = refl
 equal-from Greater e = cc e
 
--- names of equal bytes are one
+-- names of equal bytes are equal
 pub same-name : (a b : List ℕ) → same a b ≡ true → a ≡ b
 same-name a b e = slice_cmp-IsAntisymmetric nat_cmp-IsAntisymmetric a b (equal-from _ (at-same a b ∙ e))
 

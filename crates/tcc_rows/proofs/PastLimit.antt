@@ -77,12 +77,12 @@ between-none st.AfterQuote e = refl
 between-none st.InEscape e = refl
 between-none st.InComment e = cc e
 
--- ---- the mark stands in the last record
+-- ---- the mark is in the last record
 
 abbrev is_mark : ℕ → Bool
 is_mark byte = byte == past_limit
 
--- the mark is copied into the field at hand, after which the text ends in a field
+-- the mark is copied into the field that is being read, after which the text ends in a field
 copied : (s : State) → in_comment s ≡ false → ((step default_config s past_limit).1 ≡ act.Copy) × (ends_at_end (step default_config s past_limit).0 ≡ true)
 copied st.StartRecord e = (refl, refl)
 copied st.StartField e = (refl, refl)
@@ -159,7 +159,7 @@ ends-cut (suc n) s ys between room =
         let (front, last, all, cut) = more p.1 rest later (omega (arith, shorter, room, ap length is)) in
         (p.0 ∷ front, last, ap (λ text. p.0 ∷ records_from default_config n p.1 text) is ∙ ap (λ records. p.0 ∷ records) all, cut)
 
--- a byte order mark is no part of it
+-- a byte order mark does not contain it
 bom-kept : (xs : List ℕ) → (ys : List ℕ) × (strip_bom (xs ++ past_limit ∷ []) ≡ ys ++ past_limit ∷ [])
 unfolding strip_bom
 bom-kept [] = ([], refl)

@@ -24,7 +24,7 @@ then_tied Less b = refl
 then_tied Equal b = refl
 then_tied Greater b = refl
 
--- a key with a value is found where both parts are the same
+-- a key with a value is found if both parts are equal
 pub written-tie : (a b : List ℕ × ℕ) → is_eq (written_cmp a b) ≡ (same a.0 b.0 && (a.1 == b.1))
 written-tie a b = then_tied (slice_cmp nat_cmp a.0 b.0) (nat_cmp a.1 b.1) ∙ (λ i. sym (texts_ties a.0 b.0) i && unsigned_tied a.1 b.1 i)
 
@@ -55,7 +55,7 @@ struck-more true true rest = refl
 struck-more true false rest = refl
 struck-more false first rest = refl
 
--- a list from an index on begins with what stands there
+-- a list from an index on begins with the element at that index
 pub begins : {X Y : Type 0} (f : List X → Y) (xs : List X) (i : ℕ) (x : X) → slice_get xs i ≡ Some x → f (drop i xs) ≡ f (x ∷ drop (i + 1) xs)
 begins f xs i x at =
     at_drop_more f xs i x (slice_get_within xs i x at) ∙ ap (λ o. f (o ∷ drop (i + 1) xs)) (get_or_from_slice_get xs i x x at)
@@ -67,13 +67,13 @@ drop-past [] (suc i) h = refl
 drop-past (x ∷ xs) zero h = absurd (omega (arith, h))
 drop-past (x ∷ xs) (suc i) h = drop-past xs i (omega (arith, h))
 
--- something stands at an index below the length
+-- there is an element at an index below the length
 pub none-past : {X : Type 0} (xs : List X) (i : ℕ) → slice_get xs i ≡ None → i < length xs → ⊥
 none-past [] i none inside = absurd (omega (arith, inside))
 none-past (x ∷ xs) zero none inside = absurd (cc none)
 none-past (x ∷ xs) (suc i) none inside = none-past xs i none (omega (arith, inside))
 
--- what a test refuses of one more of a list is struck out
+-- what a test refuses of one more element of a list is struck out
 pub struck-on : {X : Type 0} (test : X → Bool) (xs : List X) (i : ℕ) (x : X) (held now total : Bool) → slice_get xs i ≡ Some x
     → (held && not (list_any test (drop i xs))) ≡ total → now ≡ (held && not (test x)) → (now && not (list_any test (drop (i + 1) xs))) ≡ total
 struck-on test xs i x held now total at before is =
@@ -92,7 +92,7 @@ struck-session written es i held now total inside before is = by (slice_get es i
         struck-on (is_read_in written) es i named held now total at before
         (is ∙ ap (λ o. held && not (list_any (is_read_by written) (option_map_or (λ named. named.1) o []))) at)
 
--- a transaction writes what isn't among the unread where a value of it was read
+-- a transaction writes a value that isn't among the unread ones exactly if a value of it was read
 pub outside-seen : (s : Sessions) (unread : WrittenSet) (ops : List Op)
     → ((written : List ℕ × ℕ) → list_any (puts written) ops ≡ true → holds unread written ≡ not (is_read s written))
     → list_any (is_outside unread) ops ≡ list_any (is_seen_write s) ops
@@ -115,7 +115,7 @@ outside-seen s unread (Put key value ∷ ops) known =
     first : not (holds unread (key, value)) ≡ is_read s (key, value)
     first = ap not (known (key, value) (ap (λ b. b || list_any (puts (key, value)) ops) itself)) ∙ twice (is_read s (key, value))
 
--- what of a set of all that pending transactions write was read, and the transactions
+-- the same for one of the pending transactions: the set had all that these write, and lost what was read
 pub seen-of : (s : Sessions) (unread all : WrittenSet) (first : List ℕ × Transaction) (rest pending : Pending)
     → ((written : List ℕ × ℕ) → holds all written ≡ is_written pending written) → Strikes (is_read s) all unread
     → ((written : List ℕ × ℕ) → is_written (first ∷ rest) written ≡ true → is_written pending written ≡ true)

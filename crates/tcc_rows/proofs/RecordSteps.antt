@@ -1,8 +1,9 @@
--- One record taken off what a reader has left.
+-- One record taken off the records that a reader has left.
 use Rattle.std.proofs.Common.{◌≡◌, ℕ, zero, suc, ◌+◌, ◌<◌, ◌≤◌, Bool, true, false, List, [], ◌∷◌, ◌++◌, length, Option}
-use Rattle.std.proofs.Common.{option_map, None, Some, refl, sym, ap, ◌∙◌, arith, append_assoc, cond, add-one}
+use Rattle.std.proofs.Common.{option_map, None, Some, refl, sym, ap, inl, inr, ◌∙◌, arith, append_assoc, cond, add-one}
 use Rattle.std.proofs.Common.{length-append}
-use Rattle.std.specs.Prelude.{◌==◌, MatchResult, OnOk, Result, Ok, Err}
+use Rattle.std.specs.Prelude.{◌-◌, ◌==◌, IfErr, MatchResult, OnOk, Result, Ok, Err, get_or}
+use Rattle.std.proofs.Math.Seq.{get_or-append_seam}
 use Rattle.csv.specs.Machine.{Read, step, next_record, ends_at_end, is_end, fields_after}
 use Rattle.csv.specs.Machine.{field_after, in_field, start_field, start_record, after_end}
 use Rattle.csv.specs.Machine.{ends_with}
@@ -15,9 +16,12 @@ use Rattle.csv.specs.declared.parser.Terminator.TheVariants as term
 use Rattle.csv.proofs.ReadFacts.{rows-end, rows-more}
 use Rattle.tcc_rows.specs.Lines.{Record}
 use Rattle.tcc_rows.specs.ByteLimit.{limited_remaining}
-use Rattle.tcc_rows.specs.Reached.{StandsBy, StandsIn}
+use Rattle.tcc_rows.specs.Reached.{StandsBy, StandsIn, is_of_record, record_at}
 use Rattle.tcc_rows.specs.RecordsLeft.{HasLeft, IsPlain, record_of, records_after}
-use Rattle.tcc_rows.specs.private.Stages.{TakesRecord}
+use Rattle.tcc_rows.specs.Ahead.{IsFailure}
+use Rattle.tcc_rows.specs.private.Stages.{StopsIn, TakesRecord}
+use Rattle.tcc_rows.specs.declared.fault.RowFault.{RowFault}
+use Rattle.tcc_rows.specs.declared.fault.RowFaultKind.{RowFaultKind}
 use Rattle.tcc_rows.specs.declared.rows.Stage.TheVariants as stage
 use Rattle.tcc_rows.specs.declared.rows.Rows.{Rows}
 use Rattle.tcc_rows.specs.declared.rows.records.Records.{Records}
@@ -140,7 +144,7 @@ next_record-shorter s (c ∷ rest) p between e =
     by true t e = let at : rest ≡ p.2 = some-rest _ _ _ p e in omega (arith, ap length at)
     by false t e = let h : length p.2 ≤ length rest = (next_record-leaves _ _ _ rest p e).shorter in omega arith
 
--- with bytes enough for each record that there may be, how many turns there are makes no difference
+-- if there are more turns than bytes, their number makes no difference
 records_from-turns : (m n : ℕ) (s : State) (text : List ℕ) → ends_at_end s ≡ false → length text < m → length text < n
     → records_from default_config m s text ≡ records_from default_config n s text
 unfolding records_from
@@ -175,7 +179,7 @@ records_after-none s text e =
     let turns : length text + 1 ≡ suc (length text) = add-one _ in
     rw (turns, e) refl
 
--- what an option's value, mapped, says of the option
+-- what an option's mapped value says of the option
 from-map : {A B : Type 0} (f : A → B) (o : Option A) (b : B) → option_map f o ≡ Some b → (a : A) × (o ≡ Some a) × (f a ≡ b)
 from-map f None b e = cc e
 from-map f (Some a) b e = (a, refl, cc e)
@@ -210,12 +214,16 @@ pub stands-on : {R : Type 0} (remaining : R → Option (List ℕ)) (old new : Re
     → TakesRecord remaining stands.left true new → new.count ≡ old.count + 1 → new.stage ≡ old.stage → StandsIn remaining new all
 stands-on remaining old new all stands taken count kept =
     let last : List Record = record_of new ∷ [] in
+    let whole : all ≡ stands.first ++ (record_of new ∷ taken.0) = stands.whole ∙ ap (λ rest. stands.first ++ rest) taken.1 in
+    let here : length stands.first ≡ new.count - 1 = omega (arith, count, stands.counted) in
     record {
       first = stands.first ++ last;
       left = taken.0;
       whole = stands.whole ∙ ap (λ rest. stands.first ++ rest) taken.1 ∙ sym (append_assoc stands.first last taken.0);
       counted = omega (arith, count, stands.counted, length-append stands.first last);
       rest = taken.2;
+      last = λ some. sym (get_or-append_seam stands.first (record_of new) taken.0 []) ∙ ap (λ n. get_or (stands.first ++ record_of new ∷ taken.0) n []) here
+          ∙ ap (λ rows. record_at new.count rows) (sym whole);
       going = kept ∙ stands.going;
     }
 
@@ -231,15 +239,30 @@ pub stands-within : {R : Type 0} (remaining : R → Option (List ℕ)) (records 
 stands-within remaining records all stands =
     omega (arith, stands.counted, ap length stands.whole, length-append stands.first stands.left)
 
--- what comes of a line, or of the end, leaves the records where they are
-pub line-stands : {R T E : Type 0} (remaining : R → Option (List ℕ)) (old new : Rows R) (all : List Record) (result : Result T E)
-    → StandsIn remaining old.records all → new.records ≡ old.records → OnOk result (new.stage ≡ stage.Reading)
-    → MatchResult result (λ _. StandsBy new.stage remaining new.records all) (λ _. new.records.count ≤ length all)
-line-stands remaining old new all (Ok given) stands kept reading = rw (reading, kept) stands
-line-stands remaining old new all (Err e) stands kept reading = rw kept (stands-within remaining old.records all stands)
+-- the reading of a record failed, or memory was refused: the fault is not one of a record
+pub failure-of-none : (k : RowFaultKind) → IsFailure k → is_of_record k ≡ true → ⊥
+failure-of-none k (inl read) is = cc (rw read at is)
+failure-of-none k (inr memory) is = cc (rw memory at is)
 
-pub all-read : {R T E : Type 0} (remaining : R → Option (List ℕ)) (old new : Rows R) (all : List Record) (result : Result T E)
+pub stops-unread : {R : Type 0} (records : Records R) (all : List Record) (k : RowFaultKind) → IsFailure k → records.count ≤ length all → StopsIn k all records
+stops-unread records all k failure within = (within, λ is. absurd (failure-of-none k failure is))
+
+-- the record that was read last is the one at the row that was reached
+pub stops-at : {R : Type 0} (remaining : R → Option (List ℕ)) (records : Records R) (all : List Record) (k : RowFaultKind) → StandsIn remaining records all
+    → 0 < records.count → StopsIn k all records
+stops-at remaining records all k stands some = (stands-within remaining records all stands, λ is. rw stands.going (stands.last some))
+
+-- the result for a line, or for the end, leaves the records as they are
+pub line-stands : {R T : Type 0} (remaining : R → Option (List ℕ)) (old new : Rows R) (all : List Record) (result : Result T RowFault)
+    → StandsIn remaining old.records all → 0 < old.records.count → new.records ≡ old.records → OnOk result (new.stage ≡ stage.Reading)
+    → MatchResult result (λ _. StandsBy new.stage remaining new.records all) (λ fault. StopsIn fault.kind all new.records)
+line-stands remaining old new all (Ok given) stands some kept reading = rw (reading, kept) stands
+line-stands remaining old new all (Err fault) stands some kept reading = rw kept (stops-at remaining old.records all fault.kind stands some)
+
+pub all-read : {R T : Type 0} (remaining : R → Option (List ℕ)) (old new : Rows R) (all : List Record) (result : Result T RowFault)
     → old.records.count ≡ length all → new.records ≡ old.records → OnOk result (new.stage ≡ stage.Ended)
-    → MatchResult result (λ _. StandsBy new.stage remaining new.records all) (λ _. new.records.count ≤ length all)
-all-read remaining old new all (Ok given) counted kept ended = rw (ended, kept) counted
-all-read remaining old new all (Err e) counted kept ended = rw kept (omega (arith, counted))
+    → IfErr result (λ fault. is_of_record fault.kind ≡ false)
+    → MatchResult result (λ _. StandsBy new.stage remaining new.records all) (λ fault. StopsIn fault.kind all new.records)
+all-read remaining old new all (Ok given) counted kept ended other = rw (ended, kept) counted
+all-read remaining old new all (Err fault) counted kept ended other =
+    rw kept (omega (arith, counted), λ is. absurd (cc (other, is)))

@@ -13,14 +13,14 @@ use Rattle.tcc_txn.specs.Finished.{IsWithinLimits, with_transaction}
 use Rattle.tcc_rows.specs.Items.{finished_in, with_item}
 use Rattle.tcc_rows.specs.Lines.{Record}
 use Rattle.tcc_rows.specs.Reached.{IsWithin, StandsBy, row_in, row_reached}
-use Rattle.tcc_rows.specs.Recordings.{FailsBehind, HasSealsBefore, IsAtMoment, IsRecorded, IsRecording, Passes, TakesMoment, after_items, has_seal, is_seal, seals_in}
+use Rattle.tcc_rows.specs.Recordings.{FailsBehind, HasSealsBefore, IsAtCheckpoint, IsRecorded, IsRecording, Passes, TakesCheckpoint, after_items, has_seal, is_seal, seals_in}
 use Rattle.tcc_rows.specs.Settling.{seen_among, shown, told, unseen_among, with_shown}
 use Rattle.tcc_rows.specs.private.Waiting.{AddsSome, IsUnderWay, IsUnsettled, PassesItems, given_at}
 use Rattle.tcc_txn.specs.Snapshots.{Sessions}
 use Rattle.tcc_txn.specs.Transactions.{Transaction}
 use Rattle.tcc_txn.specs.declared.limits.Limits.{Limits}
-use Rattle.tcc_rows.specs.declared.recording.Moment.{Moment}
-use Rattle.tcc_rows.specs.declared.recording.Moment.TheVariants as moment
+use Rattle.tcc_rows.specs.declared.recording.Checkpoint.{Checkpoint}
+use Rattle.tcc_rows.specs.declared.recording.Checkpoint.TheVariants as checkpoint
 use Rattle.tcc_rows.specs.declared.recording.RecordingWithin.{RecordingWithin}
 use Rattle.tcc_rows.specs.declared.rows.Item.{Item}
 use Rattle.tcc_rows.specs.declared.rows.Item.TheVariants as item
@@ -55,11 +55,11 @@ met-stopped stage.Reading fault e = cc e
 met-stopped stage.Ended fault e = cc e
 met-stopped (stage.Stopped met) fault e = cc e
 
--- where no fault and no end was met there may be more records
-pub at-moment : {X : Type 0} (p : Stage) → (p ≡ stage.Reading → X) → fault_in p ≡ None → (ended_in p ≡ true → ⊥) → X
-at-moment stage.Reading is fresh going = is refl
-at-moment stage.Ended is fresh going = absurd (going refl)
-at-moment (stage.Stopped fault) is fresh going = absurd (none-some fault (sym fresh))
+-- if neither a fault nor the end was reached, there may be more records
+pub at-checkpoint : {X : Type 0} (p : Stage) → (p ≡ stage.Reading → X) → fault_in p ≡ None → (ended_in p ≡ true → ⊥) → X
+at-checkpoint stage.Reading is fresh going = is refl
+at-checkpoint stage.Ended is fresh going = absurd (going refl)
+at-checkpoint (stage.Stopped fault) is fresh going = absurd (none-some fault (sym fresh))
 
 pub no-end-stopped : (fault : RowFault) → ended_in (stage.Stopped fault) ≡ true → ⊥
 no-end-stopped fault e = cc e
@@ -83,11 +83,11 @@ module _ (limits : Limits) where
       settles = λ i. settled_behind (sym none i) (sym nothing i) given;
       snapshot = none;
       limits_kept = kept;
-      moment = λ reading. inl refl;
+      checkpoint = λ reading. inl refl;
       closed = λ ended. nothing;
     }
 
-    -- at a moment or behind it
+    -- at a checkpoint or after it
     pub under-way : {B : Type 0} (recording : RecordingWithin R B) (taken : List Item) (ahead : Answers) → IsRecording limits remaining recording taken ahead
         → IsUnderWay limits remaining recording taken ahead
     under-way recording taken ahead is =
@@ -103,7 +103,7 @@ module _ (limits : Limits) where
       settles = refl;
       snapshot = same ∙ recording.snapshot;
       limits_kept = limits-of taken (taken ++ []) (sym (append-nil taken)) (limits-before limits taken rest.items recording.limits_kept);
-      moment = λ reading. absurd (no-reading fault (sym stopped ∙ reading));
+      checkpoint = λ reading. absurd (no-reading fault (sym stopped ∙ reading));
       closed = λ ended. absurd (no-end-stopped fault (ap ended_in (sym stopped) ∙ ended));
     }
 
@@ -151,7 +151,7 @@ module _ (limits : Limits) where
           },
         )
 
-    -- nobody told how a transaction of the session ended
+    -- the outcome of a transaction of the session is unknown
     pub waits : (session : List ℕ) (txn : Transaction) → TakesAnswer limits remaining way.3.given (Ok (item.Unknown session txn)) new.rows
         → new.snapshot ≡ old.snapshot → new.pending.items ≡ old.pending.items ++ (session, txn) ∷ [] → HasPassed limits remaining new taken ahead
     waits session txn answer same waiting = (
@@ -186,7 +186,7 @@ module _ (limits : Limits) where
 
     -- the rows have come to a seal, or to the end
     pub comes_to_seal : TakesAnswer limits remaining way.3.given (Ok item.Seal) new.rows → new.snapshot ≡ old.snapshot → new.pending.items ≡ old.pending.items
-        → PassesItems limits remaining taken ahead (Ok moment.Seal) new
+        → PassesItems limits remaining taken ahead (Ok checkpoint.Seal) new
     comes_to_seal answer same waiting = record {
       passed = way.0;
       given = answer.0;
@@ -202,7 +202,7 @@ module _ (limits : Limits) where
     }
 
     pub comes_to_end : TakesAnswer limits remaining way.3.given (Ok item.End) new.rows → new.snapshot ≡ old.snapshot → new.pending.items ≡ old.pending.items
-        → PassesItems limits remaining taken ahead (Ok moment.End) new
+        → PassesItems limits remaining taken ahead (Ok checkpoint.End) new
     comes_to_end answer same waiting = record {
       passed = way.0;
       given = ending None;
@@ -218,7 +218,7 @@ module _ (limits : Limits) where
     }
 
     pub stops : (fault : RowFault) → TakesAnswer limits remaining way.3.given (Err fault) new.rows → new.snapshot ≡ old.snapshot → new.rows.stage ≡ stage.Stopped fault
-        → TakesMoment limits remaining taken ahead (Err fault) new
+        → TakesCheckpoint limits remaining taken ahead (Err fault) new
     stops fault answer same stopped = (
       way.0,
       way.1,
@@ -234,7 +234,7 @@ module _ (limits : Limits) where
 
     -- memory is refused
     pub gives_up : (fault : RowFault) → fault.kind ≡ kind.NoMemory → new.rows.stage ≡ stage.Stopped fault → new.snapshot ≡ old.snapshot
-        → TakesMoment limits remaining taken ahead (Err fault) new
+        → TakesCheckpoint limits remaining taken ahead (Err fault) new
     gives_up fault memory stopped same = (
       way.0,
       way.1,
@@ -251,7 +251,7 @@ module _ (limits : Limits) where
 
     -- memory is refused for one more transaction
     pub loses_one : (session : List ℕ) (txn : Transaction) (rows : Rows R) (fault : RowFault) → TakesAnswer limits remaining way.3.given (Ok (item.Finished session txn)) rows
-        → fault.kind ≡ kind.NoMemory → new.rows.stage ≡ stage.Stopped fault → new.snapshot ≡ old.snapshot → TakesMoment limits remaining taken ahead (Err fault) new
+        → fault.kind ≡ kind.NoMemory → new.rows.stage ≡ stage.Stopped fault → new.snapshot ≡ old.snapshot → TakesCheckpoint limits remaining taken ahead (Err fault) new
     loses_one session txn rows fault answer memory stopped same =
         let next = settled_behind (with_transaction old.snapshot session txn) old.pending.items answer.0 in
         let first : way.1 ≡ after_item (Some (item.Finished session txn)) next = way.3.settles ∙ ap (settled_behind old.snapshot old.pending.items) answer.1 in (
@@ -262,10 +262,10 @@ module _ (limits : Limits) where
         )
 
     -- the reading of one more record fails
-    pub fails-behind : (row : ℕ) (all : List Record) → IsAtMoment taken → answers_to limits all ≡ after_items taken ahead
+    pub fails-behind : (row : ℕ) (all : List Record) → IsAtCheckpoint taken → answers_to limits all ≡ after_items taken ahead
         → ((answers_after_within limits [] all).fault ≡ way.3.given.fault → FailsAtWithin limits row all × HasSealsBefore limits row all way.3.given)
         → FailsBehind limits taken row all
-    fails-behind row all moment answers next =
+    fails-behind row all checkpoint answers next =
         let rest : ahead ≡ after_items way.0 (settled_behind old.snapshot old.pending.items way.3.given) = way.2.1 ∙ ap (after_items way.0) way.3.settles in
         let fault : (answers_after_within limits [] all).fault ≡ way.3.given.fault = ap (λ (a : Answers). a.fault) (answers ∙ ap (after_items taken) rest) in
         let at = next fault in
@@ -289,25 +289,25 @@ module _ (limits : Limits) where
           length-append (seals_in (given_before_within limits row all)) (seals_in way.3.given.items),
           ap length seals_before,
         ) in
-        let (passed, unsealed, is) = as-taken taken (items_before_within limits row all) ahead.items more moment items many in
+        let (passed, unsealed, is) = as-taken taken (items_before_within limits row all) ahead.items more checkpoint items many in
         (at.0, passed, unsealed, is)
 
-  -- ---- at a moment, where nothing is settled yet
+  -- ---- at a checkpoint, where nothing is settled yet
 
-  module _ {R B : Type 0} (remaining : R → Option (List ℕ)) (taken : List Item) (ahead : Answers) (m : Moment) (old new : RecordingWithin R B)
+  module _ {R B : Type 0} (remaining : R → Option (List ℕ)) (taken : List Item) (ahead : Answers) (m : Checkpoint) (old new : RecordingWithin R B)
       (way : IsUnsettled limits remaining taken ahead m old) where
     abbrev now : List Item
     now = shown old.snapshot old.pending.items
 
-    -- what comes behind those of which a value was read
-    abbrev behind_now : Moment → Answers
-    behind_now moment.Seal =
+    -- what comes after those of which a value was read
+    abbrev behind_now : Checkpoint → Answers
+    behind_now checkpoint.Seal =
         after_items (item.Seal ∷ []) (settled_behind (with_shown old.snapshot old.pending.items) (unseen_among old.snapshot old.pending.items) way.given)
-    behind_now moment.End = ending None
+    behind_now checkpoint.End = ending None
 
-    split-at : (at : Moment) → settled_behind old.snapshot old.pending.items (given_at at way.given) ≡ after_items now (behind_now at)
-    split-at moment.Seal = refl
-    split-at moment.End = ap (λ items. record { items = items; fault = None }) (sym (append-nil now))
+    split-at : (at : Checkpoint) → settled_behind old.snapshot old.pending.items (given_at at way.given) ≡ after_items now (behind_now at)
+    split-at checkpoint.Seal = refl
+    split-at checkpoint.End = ap (λ items. record { items = items; fault = None }) (sym (append-nil now))
 
     ahead-now : ahead ≡ after_items (way.passed ++ now) (behind_now m)
     ahead-now =
@@ -340,7 +340,7 @@ module _ (limits : Limits) where
 
     -- memory is refused for one of them
     pub loses_shown : (fault : RowFault) → fault.kind ≡ kind.NoMemory → new.rows.stage ≡ stage.Stopped fault → AddsSome old.snapshot now new.snapshot
-        → TakesMoment limits remaining taken ahead (Err fault) new
+        → TakesCheckpoint limits remaining taken ahead (Err fault) new
     loses_shown fault memory stopped (kept, lost, is, grown) = (
       way.passed ++ now,
       behind_now m,
@@ -356,7 +356,7 @@ module _ (limits : Limits) where
           settles = refl;
           snapshot = grown ∙ with-some kept;
           limits_kept = limits-of (taken ++ (way.passed ++ kept)) ((taken ++ (way.passed ++ kept)) ++ []) (sym (append-nil (taken ++ (way.passed ++ kept)))) (limits-now kept lost is);
-          moment = λ reading. absurd (no-reading fault (sym stopped ∙ reading));
+          checkpoint = λ reading. absurd (no-reading fault (sym stopped ∙ reading));
           closed = λ ended. absurd (no-end-stopped fault (ap ended_in (sym stopped) ∙ ended));
         },
       ),
@@ -367,8 +367,8 @@ module _ (limits : Limits) where
       ahead-kept = subst (λ rows. IsAhead limits remaining rows way.given) (sym kept) way.answers
 
       -- at a seal
-      pub settled-seal : m ≡ moment.Seal → new.pending.items ≡ unseen_among old.snapshot old.pending.items → new.rows.stage ≡ stage.Reading
-          → TakesMoment limits remaining taken ahead (Ok moment.Seal) new
+      pub settled-seal : m ≡ checkpoint.Seal → new.pending.items ≡ unseen_among old.snapshot old.pending.items → new.rows.stage ≡ stage.Reading
+          → TakesCheckpoint limits remaining taken ahead (Ok checkpoint.Seal) new
       settled-seal at left reading =
           let rest = settled_behind new.snapshot new.pending.items way.given in
           let last : behind_now m ≡ after_items (item.Seal ∷ []) rest
@@ -387,13 +387,13 @@ module _ (limits : Limits) where
               limits_kept = limits-of (taken ++ ahead.items) (all ++ rest.items)
                   (ap (λ (a : Answers). taken ++ a.items) whole ∙ ap (λ items. taken ++ items) (sym (append_assoc (way.passed ++ now) (item.Seal ∷ []) rest.items))
                   ∙ sym (append_assoc taken ((way.passed ++ now) ++ item.Seal ∷ []) rest.items)) way.limits_kept;
-              moment = λ _. inr (taken ++ (way.passed ++ now), sym pushed);
+              checkpoint = λ _. inr (taken ++ (way.passed ++ now), sym pushed);
               closed = λ ended. absurd (ended-reading new.rows.stage ended reading);
             },
           )
 
       -- at the end
-      pub settled-end : m ≡ moment.End → new.pending.items ≡ [] → has_ended new.rows ≡ true → TakesMoment limits remaining taken ahead (Ok moment.End) new
+      pub settled-end : m ≡ checkpoint.End → new.pending.items ≡ [] → has_ended new.rows ≡ true → TakesCheckpoint limits remaining taken ahead (Ok checkpoint.End) new
       settled-end at none ended = (
         way.passed ++ now,
         (unsealed-now, ahead-now ∙ ap (λ n. after_items (way.passed ++ now) (behind_now n)) at),
@@ -404,14 +404,14 @@ module _ (limits : Limits) where
           snapshot = grown ∙ with-some now;
           limits_kept = limits-of (taken ++ (way.passed ++ now)) ((taken ++ (way.passed ++ now)) ++ []) (sym (append-nil (taken ++ (way.passed ++ now))))
               (limits-now now [] (sym (append-nil now)));
-          moment = λ reading. absurd (ended-reading new.rows.stage ended reading);
+          checkpoint = λ reading. absurd (ended-reading new.rows.stage ended reading);
           closed = λ _. none;
         },
       )
 
   -- after the end there is the end
   pub ended-before : {R B : Type 0} (remaining : R → Option (List ℕ)) (taken : List Item) (ahead : Answers) (recording : RecordingWithin R B)
-      → IsRecording limits remaining recording taken ahead → has_ended recording.rows ≡ true → TakesMoment limits remaining taken ahead (Ok moment.End) recording
+      → IsRecording limits remaining recording taken ahead → has_ended recording.rows ≡ true → TakesCheckpoint limits remaining taken ahead (Ok checkpoint.End) recording
   ended-before remaining taken ahead recording is ended =
       let none : is.given ≡ ending None = by recording.rows.stage ended is.answers in
       let last : ahead ≡ ending None = is.settles ∙ (λ i. settled_behind recording.snapshot (is.closed ended i) (none i)) in (
@@ -424,7 +424,7 @@ module _ (limits : Limits) where
           snapshot = is.snapshot ∙ ap finished_in (sym (append-nil taken));
           limits_kept = limits-of (taken ++ ahead.items) ((taken ++ []) ++ [])
               (ap (λ (a : Answers). taken ++ a.items) last ∙ ap (λ items. items ++ []) (sym (append-nil taken))) is.limits_kept;
-          moment = λ reading. absurd (ended-reading recording.rows.stage ended reading);
+          checkpoint = λ reading. absurd (ended-reading recording.rows.stage ended reading);
           closed = is.closed;
         },
       )
@@ -448,7 +448,7 @@ module _ (limits : Limits) where
       (within-before limits (fold with_item s (kept ++ told x ∷ [])) more
       (subst (IsWithinLimits limits) (ap (fold with_item s) is ∙ fold-append with_item s (kept ++ told x ∷ []) more) kept_limits))
 
-  -- what holds of a fault that is passed on
+  -- what holds for a fault that is passed on
   pub if-err-of : {A : Type 0} (P : RowFault → Type 0) (r : Result A RowFault) (fault : RowFault) → IsErrAnd r (λ why. why ≡ fault) → P fault → IfErr r P
   if-err-of P (Ok _) fault is p = tt
   if-err-of P (Err why) fault is p = subst P (sym is) p
@@ -477,7 +477,7 @@ module _ (limits : Limits) where
   err-of (Ok _) fault is = absurd is
   err-of (Err why) fault is = ap Err is
 
-  -- what a recording that was given up says of the records
+  -- what a recording that gave up says of the records
   pub within-stopped : {R : Type 0} (remaining : R → Option (List ℕ)) (old new : Rows R) (fault : RowFault) (all : List Record)
       → new ≡ record old { stage = stage.Stopped fault }
       → IsWithin remaining old all → IsWithin remaining new all
@@ -516,7 +516,7 @@ module _ (limits : Limits) where
 
   module _ {R B : Type 0} (remaining : R → Option (List ℕ)) (text : List ℕ) (old new : RecordingWithin R B) (way : HasTaken limits remaining old (answers_within limits text)) where
     -- a seal is passed
-    pub passes_seal : TakesMoment limits remaining way.0 way.1 (Ok moment.Seal) new → HasTaken limits remaining new (answers_within limits text)
+    pub passes_seal : TakesCheckpoint limits remaining way.0 way.1 (Ok checkpoint.Seal) new → HasTaken limits remaining new (answers_within limits text)
     passes_seal at = (
       way.0 ++ (at.0 ++ item.Seal ∷ []),
       at.1,
@@ -527,14 +527,14 @@ module _ (limits : Limits) where
     )
 
     -- all items are taken
-    pub ends : TakesMoment limits remaining way.0 way.1 (Ok moment.End) new → IsRecorded limits text (Ok new.snapshot)
+    pub ends : TakesCheckpoint limits remaining way.0 way.1 (Ok checkpoint.End) new → IsRecorded limits text (Ok new.snapshot)
     ends at =
         let whole = way.2 ∙ ap (after_items way.0) at.1.1 in (
           ap (λ (all : Answers). all.fault) whole,
           at.2.snapshot ∙ ap finished_in (sym (ap (λ (all : Answers). all.items) whole ∙ ap (λ items. way.0 ++ items) (append-nil at.0))),
         )
 
-    pub fails : (fault : RowFault) → TakesMoment limits remaining way.0 way.1 (Err fault) new → fault.row ≤ length (records_within limits text) + 1
+    pub fails : (fault : RowFault) → TakesCheckpoint limits remaining way.0 way.1 (Err fault) new → fault.row ≤ length (records_within limits text) + 1
         → (fault.kind ≡ kind.Read → FailsAtWithin limits fault.row (records_within limits text)) → IsRecorded limits text (Err fault)
     fails fault at within failed =
         let whole = way.2 ∙ ap (after_items way.0) at.2.1 in

@@ -88,7 +88,7 @@ lines-more past fields l rest is = ap (λ r. lines_after (noted r past) rest) (s
 
 -- ---- the first of lawful records
 
--- what holds of the answers by its line holds of them
+-- what holds for the answers by its line holds for the record's answers
 by-line : (past : List Line) (fields : Record) (rest : List Record) (P : Answers → Type 0) → (answers_after past (fields ∷ rest)).fault ≡ None
     → ((last : Line) → line_of fields ≡ Ok last → (answers_after (last ∷ past) rest).fault ≡ None
     → P (after_item (item_of past last) (answers_after (last ∷ past) rest)))
@@ -233,7 +233,7 @@ until-settled (item.Seal ∷ items) (suc k) s pending =
 until-settled (item.End ∷ items) zero s pending = ap (λ rest. item.End ∷ rest) (until-settled items zero s pending)
 until-settled (item.End ∷ items) (suc k) s pending = ap (λ rest. item.End ∷ rest) (until-settled items (suc k) s pending)
 
--- of records without a fault
+-- for records without a fault
 whole-items : (text : List ℕ) → (answers_of text).fault ≡ None
     → (answers_of text).items ≡ settled_after true finite.empty [] (given_within Small text).items
 whole-items text free = ap (λ o. settled_after (is_none o) finite.empty [] (given_within Small text).items) free

@@ -15,7 +15,7 @@ use Rattle.tcc_rows.proofs.PastFacts.{same-itself, same-name, same-swap}
 abbrev Seat : Type 0
 Seat = List ℕ × Option (List Op)
 
--- a session of no seat is not among the names, and one of these has a seat
+-- a session without a seat is not among the names, and one among them has a seat
 pub unseated : (seats : Seats) (s : List ℕ) → is_symbol s (map (λ (seat : Seat). seat.0) seats) ≡ false → seat_at seats s ≡ None
 unseated [] s absent = refl
 unseated (seat ∷ seats) s absent = by (same s seat.0) refl absent (unseated seats s)
@@ -35,7 +35,7 @@ unnamed (seat ∷ seats) s none = by (same s seat.0) refl none (unnamed seats s)
     by true e none rest = cc none
     by false e none rest = rw e (rest none)
 
--- a session at a number has a seat
+-- a session with a number has a seat
 pub seated : (seats : Seats) (s : List ℕ) (n : ℕ) → IsSeat seats s n → seat_at seats s ≡ None → ⊥
 seated [] s n is none = absurd is
 seated (seat ∷ seats) s zero is none =
@@ -64,7 +64,7 @@ seat-here [] n seat within at = absurd (omega (arith, within))
 seat-here (first ∷ seats) zero seat within at = ap (λ (x : Seat). x.0) (sym at)
 seat-here (first ∷ seats) (suc n) seat within at = seat-here seats n seat (omega (arith, within)) at
 
--- a name that stands once, where another stands at a later number
+-- a name that is in the list once, if another is at a later number
 later : (seat : Seat) (seats : Seats) (s : List ℕ) (n : ℕ) → is_symbol seat.0 (map (λ (seat : Seat). seat.0) seats) ≡ false → IsSeat seats s n → same s seat.0 ≡ false
 later seat seats s n once is = by (same s seat.0) refl
   where
@@ -102,7 +102,7 @@ each-found (first ∷ seats) once (suc k) d inside =
         absurd (cc (none, rest))
     by false e rest = refl
 
--- a seat is put in the place of another
+-- a seat is put in place of another
 pub seat-put : (seats : Seats) (s : List ℕ) (n : ℕ) (begun : Option (List Op)) → AreOnce (map (λ (seat : Seat). seat.0) seats) → IsSeat seats s n
     → PutsSeat seats s begun (set seats n (s, begun))
 seat-put [] s n begun once is q = absurd is

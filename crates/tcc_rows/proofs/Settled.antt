@@ -4,7 +4,7 @@ use Rattle.std.proofs.Common.{append_assoc, append-nil, length-append}
 use Rattle.std.proofs.lemmas.List.Elements.{filter-append}
 use Rattle.tcc_txn.specs.Finished.{with_transaction}
 use Rattle.tcc_txn.specs.Snapshots.{Sessions}
-use Rattle.tcc_rows.specs.Recordings.{IsAtMoment, has_seal, is_seal, seals_in}
+use Rattle.tcc_rows.specs.Recordings.{IsAtCheckpoint, has_seal, is_seal, seals_in}
 use Rattle.tcc_rows.specs.Settling.{Pending, seen_among, settled_after, shown, told, unseen_among, with_shown}
 use Rattle.tcc_rows.specs.declared.rows.Item.{Item}
 use Rattle.tcc_rows.specs.declared.rows.Item.TheVariants as item
@@ -49,7 +49,7 @@ seals-settled ends (item.Seal ∷ rest) s pending =
     ∙ ap (λ items. item.Seal ∷ items) (seals-settled ends rest (with_shown s pending) (unseen_among s pending))
 seals-settled ends (item.End ∷ rest) s pending = seals-settled ends rest s pending
 
--- no seal is among items where there is none among their seals
+-- items have no seal if there is none among their seals
 pub none-sealed : (items : List Item) → length (seals_in items) ≡ 0 → has_seal items ≡ false
 none-sealed [] e = refl
 none-sealed (item.Finished session txn ∷ items) e = none-sealed items e
@@ -67,7 +67,7 @@ unsealed-none (item.End ∷ items) e = unsealed-none items e
 pub seals-append : (xs ys : List Item) → seals_in (xs ++ ys) ≡ seals_in xs ++ seals_in ys
 seals-append xs ys = filter-append is_seal xs ys
 
--- of two lists that begin one list, one begins the other
+-- if two lists are prefixes of one list, one is a prefix of the other
 pub begin-both : {X : Type 0} (xs ys us vs : List X) → xs ++ us ≡ ys ++ vs
     → ((more : List X) × (ys ≡ xs ++ more)) ⊎ ((x : X) × (more : List X) × (xs ≡ ys ++ x ∷ more))
 begin-both [] ys us vs e = inl (ys, refl)
@@ -82,12 +82,12 @@ begin-both {X} (x ∷ xs) (y ∷ ys) us vs e =
     by here (inl (more, is)) = inl (more, λ i. sym here i ∷ is i)
     by here (inr (z, more, is)) = inr (z, more, λ i. here i ∷ is i)
 
--- items with as many seals as those that were taken at a moment are these, and then some without a seal
-pub as-taken : (taken before more rest : List Item) → IsAtMoment taken → taken ++ more ≡ before ++ rest
+-- if items have as many seals as those that were taken at a checkpoint, they are these and then some without a seal
+pub as-taken : (taken before more rest : List Item) → IsAtCheckpoint taken → taken ++ more ≡ before ++ rest
     → length (seals_in taken) ≡ length (seals_in before) → (passed : List Item) × (has_seal passed ≡ false) × (before ≡ taken ++ passed)
-as-taken taken before more rest moment both many = by (begin-both taken before more rest both)
+as-taken taken before more rest checkpoint both many = by (begin-both taken before more rest both)
   where
-    late : (x : Item) (left : List Item) → taken ≡ before ++ x ∷ left → IsAtMoment taken → ⊥
+    late : (x : Item) (left : List Item) → taken ≡ before ++ x ∷ left → IsAtCheckpoint taken → ⊥
     late x left is (inl none) = absurd (omega (arith, ap length (sym is ∙ none), length-append before (x ∷ left)))
     late x left is (inr (front, sealed)) = last (begin-both before front (x ∷ left) (item.Seal ∷ []) (sym is ∙ sealed))
       where
@@ -106,4 +106,4 @@ as-taken taken before more rest moment both many = by (begin-both taken before m
         let none : length (seals_in d) ≡ 0
         = omega (arith, many, ap (λ items. length (seals_in items)) e, ap length (seals-append taken d), length-append (seals_in taken) (seals_in d)) in
         (d, none-sealed d none, e)
-    by (inr (x, d, e)) = absurd (late x d e moment)
+    by (inr (x, d, e)) = absurd (late x d e checkpoint)

@@ -1,4 +1,4 @@
--- What settled answers finish keeps the limits, since all keeps them with all whose outcome nobody told.
+-- What settled answers finish keeps the limits, since all items keep them even with all of unknown outcome.
 use Rattle.std.proofs.Common.{◌≡◌, ℕ, ◌+◌, ◌≤◌, Bool, true, false, cond, not, ◌||◌, List, [], ◌∷◌, ◌++◌, filter, length, map, refl, sym, ap, subst, ◌∙◌, arith}
 use Rattle.std.proofs.Common.{length-append}
 use Rattle.std.specs.Prelude.{fold, is_none, unwrap_or}
@@ -65,7 +65,7 @@ few-names m a part =
     (λ q h. sym (finite.contains_key-keys a q) ∙ part q (finite.contains_key-keys m q ∙ h)) in
     omega (arith, fewer, finite.len-entries m, length-map (finite.entries m) (λ e. e.0), finite.len-entries a, length-map (finite.entries a) (λ e. e.0))
 
--- ---- what is finished and what is pending, below all
+-- ---- what is finished and what is pending, bounded by all
 
 record IsBelow (s : Sessions) (pending : Pending) (all : Sessions) : Type 0 where
   count : transaction_count s + length pending ≤ transaction_count all

@@ -1,4 +1,4 @@
--- Texts and their answers, worked out by the definitions alone.
+-- Texts and their answers, worked out from the definitions alone.
 use Rattle.std.proofs.Common.{◌≡◌, ◌∙◌, ◌||◌, ℕ, zero, suc, Bool, cond, List, [], ◌∷◌, map, true, false, None, Some, refl, ap}
 use Rattle.std.specs.Prelude.{codes, replicate}
 use Rattle.csv.specs.Machine.{next_record}
@@ -33,9 +33,10 @@ nothing : answers_of [] ≡ whole []
 unfolding next_record records_from strip_bom marked whole
 nothing = refl
 
--- in turn: the input ends inside a transaction; the least of two open sessions; 0 is written in the second record; the
--- same record alone is no operation outside a transaction, since the lower kind comes first; a read outside; a second
--- begin; a value of more than 64 bits, and one with a leading zero
+-- Texts with one fault each. The input ends inside a transaction. The least of two open sessions is named. 0 is written in the
+-- second record. The same record alone has that fault too, since its kind comes before that of an operation outside a
+-- transaction. A read is outside a transaction. A transaction is begun twice. A value has more than 64 bits. A value has a
+-- leading zero.
 faults_alone :
     (answers_of (codes "a,begin\na,r,x,0\n") ≡ faulty [] 2 (kind.Unfinished (codes "a")))
     × (answers_of (codes "b,begin\na.,begin\na-,begin") ≡ faulty [] 3 (kind.Unfinished (codes "a-")))
@@ -54,14 +55,14 @@ sealed_inside : answers_of (codes "a,begin\na,w,x,7\nseal\na,commit\n")
 unfolding next_record records_from strip_bom marked whole
 sealed_inside = refl
 
--- two sessions, one within the other, the inner one aborted; and then a word that is none
+-- two sessions, one inside the other, the inner one aborted; and then an unknown word
 interleaved : answers_of (codes "a,begin\nb,begin\na,r,x,0\nb,w,x,1\nb,abort\na,r,y,18446744073709551615\na,commit\nstop")
     ≡ faulty (item.Finished (codes "b") (record { ops = Put (codes "x") 1 ∷ []; committed = false })
     ∷ item.Finished (codes "a") (record { ops = Get (codes "x") 0 ∷ Get (codes "y") 18446744073709551615 ∷ []; committed = true }) ∷ []) 8 kind.UnknownWord
 unfolding next_record records_from strip_bom marked faulty
 interleaved = refl
 
--- a session whose transaction ended, and nobody told how, has ended, whatever comes of it then; another one goes on
+-- a session whose transaction ended with unknown outcome has ended, whatever the outcome was; another session continues
 ended :
     (answers_of (codes "a,begin\na,unknown\na,begin\n") ≡ faulty [] 3 kind.SessionEnded)
     × (answers_of (codes "a,begin\na,unknown\na,r,x,0\n") ≡ faulty [] 3 kind.SessionEnded)
@@ -70,7 +71,7 @@ ended :
 unfolding next_record records_from strip_bom marked faulty
 ended = (refl, refl, refl, refl)
 
--- what such a transaction wrote is given; a seal and the end settle whether it counts
+-- what such a transaction wrote is given; a seal and the end decide whether it counts
 given_unknown : given_within Small (codes "a,begin\na,r,y,1\na,w,x,7\na,unknown\nseal\n")
     ≡ whole (item.Unknown (codes "a") (record { ops = Put (codes "x") 7 ∷ []; committed = true }) ∷ item.Seal ∷ [])
 unfolding next_record records_from strip_bom marked whole
@@ -112,7 +113,7 @@ read_aborted : answers_of (codes "a,begin\na,w,x,7\na,unknown\nb,begin\nb,r,x,7\
 unfolding next_record records_from strip_bom marked whole
 read_aborted = ap (λ b. whole (item.Finished (codes "b") (reads_x false) ∷ counts b)) (seen-after false)
 
--- quotes, blank lines, carriage returns and a byte order mark are the records' business
+-- quotes, blank lines, carriage returns and a byte order mark are left to the reader of records
 quoted : answers_of (239 ∷ 187 ∷ 191 ∷ codes "\"a\",begin\r\n\r\n\na,\"commit\"")
     ≡ whole (item.Finished (codes "a") (record { ops = []; committed = true }) ∷ [])
 unfolding next_record records_from strip_bom marked whole
@@ -122,8 +123,8 @@ quoted = refl
 under : ℕ → List ℕ → Answers
 under limit text = answers_after [] (records default_config (strip_bom (marked limit text)))
 
--- a record that ends within the limit is given, and the next one is the reader's fault, also where only blank lines
--- follow, and where a record that the limit cuts would be lawful
+-- A record that ends within the limit is given, and the next one is the reader's fault. So it is if only blank lines follow,
+-- and if a record that the limit cuts would be lawful.
 past_the_limit :
     (under 5 (codes "seal\nseal\n") ≡ faulty (item.Seal ∷ []) 2 kind.Read)
     × (under 5 (codes "seal\n\n") ≡ faulty (item.Seal ∷ []) 2 kind.Read)

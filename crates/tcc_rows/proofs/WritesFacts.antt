@@ -1,4 +1,4 @@
--- The writes among the operations of a transaction make one too, and one that reads nothing shows nothing.
+-- The writes among the operations of a transaction make one too, and a transaction that reads nothing shows nothing.
 use Rattle.std.proofs.Common.{ℕ, ◌≡◌, ◌≤◌, ◌+◌, Bool, true, false, cond, List, [], ◌∷◌, length, refl, sym, ap, ◌∙◌, arith}
 use Rattle.std.specs.Prelude.{nat_lt, MatchResult, Option, Some, None, Result, Ok, Err}
 use Rattle.std.specs.Result.{IsOk}
@@ -15,7 +15,7 @@ use Rattle.tcc_txn.specs.declared.txn.TxnFault.TheVariants.{WriteOfZero, TooMany
 use Rattle.tcc_rows.specs.Past.{is_write, writes_of}
 use Rattle.tcc_rows.specs.Settling.{gets}
 
--- what is nowhere in a list is nowhere in a part of it
+-- what occurs nowhere in a list occurs nowhere in a part of it
 nowhere-kept : (test : Op → Bool) (m n : ℕ) (ops : List Op) → position_from test m ops ≡ None → position_from test n (writes_of ops) ≡ None
 nowhere-kept test m n [] none = refl
 nowhere-kept test m n (op ∷ ops) none = by (test op) (is_write op) refl refl none (λ k rest. nowhere-kept test (m + 1) k ops rest)
@@ -40,7 +40,7 @@ no_fault None true e = absurd cc
 no_fault None false e = (refl, refl)
 no_fault (Some i) b e = absurd cc
 
--- the fault of operations, by where one of them writes 0 and whether they are too many
+-- the fault of operations, by whether one of them writes 0, and where, and whether they are too many
 abbrev fault_by : Option ℕ → Bool → Option TxnFault
 fault_by o b = option_map_or (λ i. Some (WriteOfZero (i + 1))) o (cond b (Some TooManyOps) None)
 

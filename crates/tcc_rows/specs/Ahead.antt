@@ -26,11 +26,11 @@ IsAheadIn limits stage.Reading remaining rows ahead = IsMidway limits remaining 
 IsAheadIn limits stage.Ended remaining rows ahead = ahead ≡ ending None
 IsAheadIn limits (stage.Stopped fault) remaining rows ahead = ahead ≡ ending (Some fault)
 
--- these are the answers that are still to come, where the reader's bytes are known
+-- these are the answers that are still to come, if the reader's bytes are known
 abbrev pub IsAhead : {R : Type 0} → Limits → (R → Option (List ℕ)) → Rows R → Answers → Type 0
 IsAhead limits remaining rows ahead = IsAheadIn limits rows.stage remaining rows ahead
 
--- the fault that was met, if there was one
+-- the fault that was reached, if there was one
 abbrev pub fault_in : Stage → Option RowFault
 fault_in stage.Reading = None
 fault_in stage.Ended = None
@@ -39,7 +39,7 @@ fault_in (stage.Stopped fault) = Some fault
 abbrev pub fault_met : {R : Type 0} → Rows R → Option RowFault
 fault_met rows = fault_in rows.stage
 
--- the end was met
+-- the end was reached
 abbrev pub ended_in : Stage → Bool
 ended_in stage.Reading = false
 ended_in stage.Ended = true
@@ -48,7 +48,7 @@ ended_in (stage.Stopped fault) = false
 abbrev pub has_ended : {R : Type 0} → Rows R → Bool
 has_ended rows = ended_in rows.stage
 
--- what comes of a reader that fails, and where memory is out
+-- the fault when a reader fails, or when memory is refused
 abbrev pub IsFailure : RowFaultKind → Type 0
 IsFailure k = (k ≡ kind.Read) ⊎ (k ≡ kind.NoMemory)
 

@@ -17,7 +17,7 @@ use Rattle.tcc_rows.specs.declared.fault.RowFaultKind.{RowFaultKind}
 use Rattle.tcc_rows.specs.declared.fault.RowFaultKind.TheVariants as kind
 use Rattle.tcc_rows.specs.Line.{Line}
 
--- the items, and then the fault, or the end where there is none
+-- the items, and then the fault, or the end if there is none
 pub record Answers : Type 0 where
   pub items : List Item
   pub fault : Option RowFault
@@ -47,7 +47,7 @@ abbrev pub go_on : List Line → (List Line → Answers) → Result Line RowFaul
 go_on past more (Ok last) = after_item (item_of past last) (more (last ∷ past))
 go_on past more (Err k) = ending (Some (record { row = length past + 1; kind = k }))
 
--- what the records that follow lawful lines give one by one, in the order of their last records; the lines stand newest first
+-- what the records that follow lawful lines give one by one, in the order of their last records; newest line first
 abbrev pub answers_after_within : Limits → List Line → List Record → Answers
 answers_after_within limits past [] = ending (fault_at_end past)
 answers_after_within limits past (fields ∷ rest) = go_on past (λ lines. answers_after_within limits lines rest) (judged_within limits past fields)
@@ -60,7 +60,7 @@ records_within limits text = records default_config (strip_bom (marked (most_byt
 abbrev pub given_within : Limits → List ℕ → Answers
 given_within limits text = answers_after_within limits [] (records_within limits text)
 
--- answers in which those of unknown outcome are settled, where this is finished before and these are pending
+-- answers in which those of unknown outcome are settled, when `s` is finished before and these are pending
 abbrev pub settled_behind : Sessions → Pending → Answers → Answers
 settled_behind s pending given = record { items = settled_after (is_none given.fault) s pending given.items; fault = given.fault }
 

@@ -1,4 +1,4 @@
--- Where the reading of a text's records fails: which of them were judged before, and what came of these.
+-- At which row the reading of a text's records fails: which of them were judged before, with what result.
 use Rattle.std.specs.Prelude.{ℕ, ◌+◌, ◌-◌, ◌≡◌, ◌≤◌, false, List, [], ◌∷◌, length, take, Ok}
 use Rattle.std.specs.FinMap.{empty}
 use Rattle.tcc_rows.specs.Answers.{answers_after_within, judged_within}
@@ -31,7 +31,7 @@ items_before_within limits row all = settled_after false empty [] (given_before_
 abbrev pub FailsAtWithin : Limits → ℕ → List Record → Type 0
 FailsAtWithin limits row all = (row ≤ length all + 1) × AreLawfulWithin limits [] (records_before row all)
 
--- ---- what fails within the small limits
+-- ---- what fails under the small limits
 
 abbrev pub AreLawful : List Line → List Record → Type 0
 AreLawful = AreLawfulWithin Small

@@ -3,7 +3,7 @@ use Rattle.std.specs.Prelude.{ℕ, zero, suc, ◌≡◌, Bool, true, false, if�
 use Rattle.tcc_txn.specs.Bytes.{same}
 use Rattle.tcc_rows.specs.Lines.{Record}
 
--- the record is one of the session: it names it first, and then what was done there
+-- the record is one of the session: it names the session in the first field, and what was done in the second
 abbrev pub is_by : List ℕ → Record → Bool
 is_by session (named ∷ word ∷ rest) = same named session
 is_by session _ = false
@@ -12,7 +12,7 @@ is_by session _ = false
 abbrev pub records_by : List ℕ → List Record → List Record
 records_by session records = filter (is_by session) records
 
--- the record names no session, as `seal` doesn't
+-- the record names no session; `seal` is such a record
 abbrev pub is_by_none : Record → Bool
 is_by_none (named ∷ word ∷ rest) = false
 is_by_none _ = true
@@ -25,7 +25,7 @@ records_by_none records = filter is_by_none records
 abbrev pub AreInterleaved : List Record → List Record → Type 0
 AreInterleaved some other = (session : List ℕ) → records_by session some ≡ records_by session other
 
--- the records before the k-th that names no session, counted from 0; all where there are not so many
+-- the records before the k-th that names no session, counted from 0; all if there are at most k
 abbrev pub records_until : List Record → ℕ → List Record
 records_until [] k = []
 records_until (fields ∷ rest) zero = if is_by_none fields then [] else fields ∷ records_until rest zero

@@ -14,5 +14,5 @@ pub mod Settling
 pub mod Midway
 pub mod RecordsLeft
 pub mod Seats
-pub mod Standing
+pub mod SessionStates
 pub mod private

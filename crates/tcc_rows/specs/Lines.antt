@@ -20,17 +20,17 @@ use Rattle.tcc_rows.specs.Line as line
 abbrev pub Record : Type 0
 Record = List (List ℕ)
 
--- the number of at most 64 bits that some digits write
+-- the number of at most 64 bits that some digits denote
 abbrev pub digits_of : List ℕ → Option ℕ
 digits_of [] = None
 digits_of (digit ∷ rest) =
     if all_ascii_digits (digit ∷ rest) && nat_lt (digits_value 10 (digit ∷ rest)) (2 ^ 64) then Some (digits_value 10 (digit ∷ rest)) else None
 
--- the number that digits without leading zeros write
+-- the number that digits without leading zeros denote
 abbrev pub value_of : List ℕ → Option ℕ
 value_of text = if has_no_leading_zero text then digits_of text else None
 
--- what comes of a field that is to be a name
+-- the result of a field that is to be a name
 abbrev pub named : {T : Type 0} → List ℕ → RowFaultKind → Result T RowFaultKind → Result T RowFaultKind
 named bytes otherwise next = if is_some (name_fault bytes) then Err otherwise else next
 
@@ -38,7 +38,7 @@ named bytes otherwise next = if is_some (name_fault bytes) then Err otherwise el
 abbrev pub accessed : Bool → List ℕ → ℕ → Result Op RowFaultKind
 accessed writes key value = if writes then if value == 0 then Err kind.WriteOfZero else Ok (Put key value) else Ok (Get key value)
 
--- a read or a write, of the two fields that say of what
+-- a read or a write, from its two fields
 abbrev pub op_of : Bool → List ℕ → List ℕ → Result Op RowFaultKind
 op_of writes key value = named key kind.BadKey (option_map_or (accessed writes key) (value_of value) (Err kind.BadValue))
 
@@ -65,6 +65,6 @@ line_of (session ∷ word ∷ key ∷ value ∷ []) =
     )
 line_of _ = Err kind.FieldCount
 
--- a record that the limit on bytes cuts: the mark stands in it
+-- a record that the limit on bytes cuts: the mark is in it
 abbrev pub is_cut : Record → Bool
 is_cut fields = list_any (list_any (λ byte. byte == past_limit)) fields

@@ -1,9 +1,9 @@
--- A reader of rows between two records. What it stands for is what the calls of `Rows` say of `IsAhead`.
+-- A reader of rows between two records. What it represents is what the calls of `Rows` say in terms of `IsAhead`.
 use Rattle.std.specs.Prelude.{ℕ, ◌+◌, ◌^◌, ◌<◌, ◌≡◌, List, length, Option}
 use Rattle.tcc_rows.specs.Answers.{Answers, answers_after_within}
 use Rattle.tcc_rows.specs.Lines.{Record}
 use Rattle.tcc_rows.specs.RecordsLeft.{HasLeft}
-use Rattle.tcc_rows.specs.Standing.{IsAfter}
+use Rattle.tcc_rows.specs.SessionStates.{IsAfter}
 use Rattle.tcc_txn.specs.declared.limits.Limits.{Limits}
 use Rattle.tcc_rows.specs.declared.rows.Rows.{Rows}
 use Rattle.tcc_rows.specs.Line.{Line}

@@ -1,4 +1,4 @@
--- What a line means after others. The lines before it stand newest first, and each of them is lawful.
+-- What a line means after others. The lines before it are in order, newest first, and each of them is lawful.
 use Rattle.std.specs.Prelude.{ℕ, ◌+◌, Bool, true, false, not, nat_lt, if◌then◌else◌, List, [], ◌∷◌, ◌++◌, length, filter, Option, None, Some}
 use Rattle.std.specs.List.{list_any}
 use Rattle.std.specs.Option.{option_map_or}
@@ -41,7 +41,7 @@ abbrev pub is_begun : List ℕ → List Line → Bool
 is_begun name [] = false
 is_begun name (last ∷ past) = if is_mark name last then begins last else is_begun name past
 
--- what the session does by the line
+-- the operations of the session in the line
 abbrev pub ops_in : List ℕ → Line → List Op
 ops_in name line.Seal = []
 ops_in name (line.Begin session) = []
@@ -93,7 +93,7 @@ abbrev pub seal_count : List Line → ℕ
 seal_count [] = 0
 seal_count (last ∷ past) = if seals last then seal_count past + 1 else seal_count past
 
--- the session's transaction ended, and nobody told how, by which the session ends
+-- the session's transaction ended with unknown outcome, so the session ends
 abbrev pub ends : List ℕ → Line → Bool
 ends name line.Seal = false
 ends name (line.Begin session) = false
@@ -113,7 +113,7 @@ is_late past (line.Finish session committed) = is_ended session past
 is_late past (line.Unknown session) = is_ended session past
 is_late past (line.Operation session op) = is_ended session past
 
--- the least kind of fault that a line is after others within the limits, if it is one and its session hasn't ended
+-- the least kind of fault that a line has after others under the limits, if it has one and its session hasn't ended
 abbrev pub fault_in_time : Limits → List Line → Line → Option RowFaultKind
 fault_in_time limits past line.Seal = if nat_lt (most_seals limits) (seal_count (line.Seal ∷ past)) then Some kind.TooManySeals else None
 fault_in_time limits past (line.Begin session) =
@@ -129,11 +129,11 @@ fault_in_time limits past (line.Operation session op) =
     else if nat_lt (most_keys limits) (length (keys (line.Operation session op ∷ past))) then Some kind.TooManyKeys
     else None
 
--- the least kind of fault that a line is after others within the limits, if it is one
+-- the least kind of fault that a line has after others under the limits, if it has one
 abbrev pub fault_within : Limits → List Line → Line → Option RowFaultKind
 fault_within limits past last = if is_late past last then Some kind.SessionEnded else fault_in_time limits past last
 
--- the fault of a line after others, within the small limits
+-- the fault of a line after others, under the small limits
 abbrev pub fault_of : List Line → Line → Option RowFaultKind
 fault_of = fault_within Small
 
@@ -146,8 +146,8 @@ is_write (Put key value) = true
 abbrev pub writes_of : List Op → List Op
 writes_of ops = filter is_write ops
 
--- what a lawful line after others finishes, or the answer that it wants; where nobody told how a transaction ended, what it wrote, as it is
--- where that counts as committed
+-- What a lawful line after others finishes, or the answer that it wants. Of a transaction of unknown outcome it has the
+-- writes, as they are if it counts as committed.
 abbrev pub item_of : List Line → Line → Option Item
 item_of past line.Seal = Some item.Seal
 item_of past (line.Begin session) = None

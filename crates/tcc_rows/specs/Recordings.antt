@@ -1,4 +1,4 @@
--- How a recording stands to the items that it has taken and to the answers that are still to come.
+-- How a recording relates to the items that it has taken and to the answers that are still to come.
 use Rattle.std.specs.Prelude.{ℕ, zero, suc, ◌+◌, ◌≡◌, ◌≤◌, ◌⊎◌, Bool, true, false, if◌then◌else◌, List, [], ◌∷◌, ◌++◌, length, filter, Option, None, Some, Result, Ok, Err}
 use Rattle.std.specs.List.{list_any}
 use Rattle.tcc_rows.specs.Ahead.{IsAhead, IsFailure, has_ended}
@@ -9,8 +9,8 @@ use Rattle.tcc_rows.specs.Items.{finished_in}
 use Rattle.tcc_rows.specs.Lines.{Record}
 use Rattle.tcc_txn.specs.Snapshots.{Sessions}
 use Rattle.tcc_txn.specs.declared.limits.Limits.{Limits}
-use Rattle.tcc_rows.specs.declared.recording.Moment.{Moment}
-use Rattle.tcc_rows.specs.declared.recording.Moment.TheVariants as moment
+use Rattle.tcc_rows.specs.declared.recording.Checkpoint.{Checkpoint}
+use Rattle.tcc_rows.specs.declared.recording.Checkpoint.TheVariants as checkpoint
 use Rattle.tcc_rows.specs.declared.recording.RecordingWithin.{RecordingWithin}
 use Rattle.tcc_rows.specs.declared.rows.Stage.TheVariants as stage
 use Rattle.tcc_rows.specs.declared.rows.Item.{Item}
@@ -31,7 +31,7 @@ has_seal items = list_any is_seal items
 abbrev pub seals_in : List Item → List Item
 seals_in items = filter is_seal items
 
--- the items before the k-th seal, counted from 0; all where there are not so many
+-- the items before the k-th seal, counted from 0; all if there are at most k
 abbrev pub items_until : List Item → ℕ → List Item
 items_until [] k = []
 items_until (first ∷ rest) zero = if is_seal first then [] else first ∷ items_until rest zero
@@ -42,11 +42,11 @@ abbrev pub after_items : List Item → Answers → Answers
 after_items items rest = record { items = items ++ rest.items; fault = rest.fault }
 
 -- nothing was taken yet, or a seal was taken last
-abbrev pub IsAtMoment : List Item → Type 0
-IsAtMoment taken = (taken ≡ []) ⊎ ((front : List Item) × (taken ≡ front ++ item.Seal ∷ []))
+abbrev pub IsAtCheckpoint : List Item → Type 0
+IsAtCheckpoint taken = (taken ≡ []) ⊎ ((front : List Item) × (taken ≡ front ++ item.Seal ∷ []))
 
--- these items were taken, the snapshot is that of what they finish, and these answers are still to come, all within the limits; while there may
--- be more records, the recording is at a seal, or where it began, and behind the end nothing is pending
+-- These items were taken, the snapshot is that of what they finish, and these answers are still to come, all under the limits.
+-- While there may be more records, the recording is at a seal, or at its beginning. After the end nothing is pending.
 pub record IsRecording (limits : Limits) {R B : Type 0} (remaining : R → Option (List ℕ)) (recording : RecordingWithin R B) (taken : List Item)
     (ahead : Answers) : Type 0 where
   pub given : Answers
@@ -54,14 +54,15 @@ pub record IsRecording (limits : Limits) {R B : Type 0} (remaining : R → Optio
   pub settles : ahead ≡ settled_behind recording.snapshot recording.pending.items given
   pub snapshot : recording.snapshot ≡ finished_in taken
   pub limits_kept : IsWithinLimits limits (finished_in (taken ++ ahead.items))
-  pub moment : recording.rows.stage ≡ stage.Reading → IsAtMoment taken
+  pub checkpoint : recording.rows.stage ≡ stage.Reading → IsAtCheckpoint taken
   pub closed : has_ended recording.rows ≡ true → recording.pending.items ≡ []
 
--- the first of the answers to come are these items without a seal, and then others
+-- the answers to come begin with these items, which have no seal, and then others follow
 abbrev pub Passes : Answers → List Item → Answers → Type 0
 Passes ahead passed rest = (has_seal passed ≡ false) × (ahead ≡ after_items passed rest)
 
--- the fault among the answers was met after all items; or the reader failed or memory was refused after some, of which the snapshot may lack the last
+-- the fault among the answers was reached after all items; or the reader failed or memory was refused after some, the last of
+-- which the snapshot may lack
 abbrev pub StopsWith : {R B : Type 0} → Limits → (R → Option (List ℕ)) → List Item → List Item → Answers → RowFault → RecordingWithin R B → Type 0
 StopsWith limits remaining taken passed rest fault new =
     ((rest ≡ ending (Some fault)) × IsRecording limits remaining new (taken ++ passed) (ending (Some fault)))
@@ -69,12 +70,12 @@ StopsWith limits remaining taken passed rest fault new =
     × IsRecording limits remaining new (taken ++ kept) (ending (Some fault)))
 
 -- the recording went on to the next seal, to the end or to a fault
-abbrev pub TakesMoment : {R B : Type 0} → Limits → (R → Option (List ℕ)) → List Item → Answers → Result Moment RowFault → RecordingWithin R B → Type 0
-TakesMoment limits remaining taken ahead (Ok moment.Seal) new = (passed : List Item) × (rest : Answers)
+abbrev pub TakesCheckpoint : {R B : Type 0} → Limits → (R → Option (List ℕ)) → List Item → Answers → Result Checkpoint RowFault → RecordingWithin R B → Type 0
+TakesCheckpoint limits remaining taken ahead (Ok checkpoint.Seal) new = (passed : List Item) × (rest : Answers)
     × Passes ahead passed (after_items (item.Seal ∷ []) rest) × IsRecording limits remaining new (taken ++ (passed ++ item.Seal ∷ [])) rest
-TakesMoment limits remaining taken ahead (Ok moment.End) new = (passed : List Item)
+TakesCheckpoint limits remaining taken ahead (Ok checkpoint.End) new = (passed : List Item)
     × Passes ahead passed (ending None) × IsRecording limits remaining new (taken ++ passed) (ending None)
-TakesMoment limits remaining taken ahead (Err fault) new = (passed : List Item) × (rest : Answers)
+TakesCheckpoint limits remaining taken ahead (Err fault) new = (passed : List Item) × (rest : Answers)
     × Passes ahead passed rest × StopsWith limits remaining taken passed rest fault new
 
 -- the reading fails at a row, and the items of the records before it are these and then some without a seal
@@ -87,8 +88,8 @@ abbrev pub HasSealsBefore : Limits → ℕ → List Record → Answers → Type 
 HasSealsBefore limits row all ahead =
     seals_in (answers_after_within limits [] all).items ≡ seals_in (given_before_within limits row all) ++ seals_in ahead.items
 
--- what comes of a text: the snapshot of all that its records finish where they have no fault, else
--- the fault; or its reading failed behind lawful records, or memory was refused at some record
+-- The result of reading a text: the snapshot of all that its records finish if they have no fault, else the fault. Or its
+-- reading failed after lawful records, or memory was refused at some record.
 abbrev pub IsRecorded : Limits → List ℕ → Result Sessions RowFault → Type 0
 IsRecorded limits text (Ok s) = ((answers_within limits text).fault ≡ None) × (s ≡ finished_in (answers_within limits text).items)
 IsRecorded limits text (Err fault) =

@@ -22,7 +22,7 @@ pub record IsPlain {R : Type 0} (reader : Reader R) : Type 0 where
 abbrev pub records_after : State → List ℕ → List Record
 records_after state text = records_from default_config (length text + 1) state text
 
--- the records that the reader has left, where its bytes are known
+-- the records that the reader has left, if its bytes are known
 pub record HasRecords {R : Type 0} (remaining : R → Option (List ℕ)) (reader : Reader R) (left : List Record) : Type 0 where
   pub plain : IsPlain reader
   pub between : ends_at_end (reader_state reader) ≡ false

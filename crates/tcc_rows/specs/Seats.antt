@@ -8,6 +8,6 @@ use Rattle.tcc_txn.specs.declared.op.Op.{Op}
 abbrev pub Seats : Type 0
 Seats = List (List ℕ × Option (List Op))
 
--- the seat of a session, where it is one of these
+-- the seat of a session, if it is one of these
 abbrev pub seat_at : Seats → List ℕ → Option (Option (List Op))
 seat_at seats name = lookup (same name) seats

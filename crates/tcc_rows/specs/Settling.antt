@@ -1,4 +1,4 @@
--- Transactions whose outcome nobody told: each counts as committed once a committed transaction has read a value of it.
+-- Transactions of unknown outcome: each counts as committed once a committed transaction has read a value of it.
 use Rattle.std.specs.Prelude.{ℕ, Bool, false, not, ◌&&◌, ◌==◌, if◌then◌else◌, List, [], ◌∷◌, ◌++◌, filter, fold, map}
 use Rattle.std.specs.FinMap as finite
 use Rattle.std.specs.List.{list_any}
@@ -37,7 +37,7 @@ is_seen_write s (Put key value) = is_read s (key, value)
 abbrev pub is_seen : Sessions → Transaction → Bool
 is_seen s txn = list_any (is_seen_write s) txn.ops
 
--- transactions of unknown outcome by their sessions, each as it is where it was committed
+-- transactions of unknown outcome by their sessions, each as it is if it was committed
 abbrev pub Pending : Type 0
 Pending = List (List ℕ × Transaction)
 
@@ -59,8 +59,8 @@ shown s pending = map told (seen_among s pending)
 abbrev pub with_shown : Sessions → Pending → Sessions
 with_shown s pending = fold with_item s (shown s pending)
 
--- items with those of unknown outcome settled, where this is finished before and these are pending: at each seal, and at the end if there is
--- one, those of which a value was read are finished before it, and the others stay pending
+-- Items with those of unknown outcome settled, when `s` is finished before and these are pending. At each seal, and at the end
+-- if there is one, those of which a value was read are finished before it. The others stay pending.
 abbrev pub settled_after : Bool → Sessions → Pending → List Item → List Item
 settled_after ends s pending [] = if ends then shown s pending else []
 settled_after ends s pending (item.Finished session txn ∷ rest) =

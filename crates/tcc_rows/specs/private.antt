@@ -1,4 +1,4 @@
--- What nobody has to believe: private functions say it to one another, or proofs to themselves.
+-- Definitions that no reader has to trust: only private functions and proofs use them.
 pub mod Failing
 pub mod Drafts
 pub mod StagesAfter
@@ -7,6 +7,6 @@ pub mod Limited
 pub mod Passing
 pub mod Seating
 pub mod Words
-pub mod Turns
+pub mod ControlRecords
 pub mod Unread
 pub mod Waiting

@@ -75,8 +75,8 @@ impl From<GrowFault> for RowFaultKind {
     }
 }
 
-/// The record, counted from 1, and what is wrong with it. `Unfinished` stands at the last record;
-/// where the reading of a record failed, that is the one after the last that was read.
+/// The record, counted from 1, and what is wrong with it. `Unfinished` is at the last record. If the reading of a record
+/// failed, the row is the one after the last record that was read.
 #[derive(Clone, Copy, Debug, PartialEq, Eq, Error)]
 #[error("row {row}: {kind}")]
 pub struct RowFault {

@@ -1,4 +1,4 @@
-//! Records of sessions to what they finish: rows one after the other, and recordings, which are snapshots that grow.
+//! From records of sessions to what they finish: rows one after another, and recordings, which are snapshots that grow.
 #![tactic(auto)]
 
 mod fault;
@@ -9,6 +9,6 @@ mod rows;
 
 pub use fault::{RowFault, RowFaultKind};
 pub use recording::{
-    LargeRecording, Moment, Recording, RecordingWithin, large_snapshot_of, snapshot_of,
+    Checkpoint, LargeRecording, Recording, RecordingWithin, large_snapshot_of, snapshot_of,
 };
 pub use rows::{Item, Rows};

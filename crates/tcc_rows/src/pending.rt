@@ -1,5 +1,6 @@
-//! Transactions of unknown outcome, and which of them were read. What they wrote is put into a set, and one walk over what is
-//! finished strikes out what was read: a look-up for each read of a committed transaction, and none where nothing is pending.
+//! Transactions of unknown outcome, and which of them were read. Their writes are put into a set, and one pass over what is
+//! finished strikes out what was read. That costs a look-up for each read of a committed transaction, and none if nothing is
+//! pending.
 ghost use Rattle.std.specs.Prelude.{◌≡◌, ◌||◌, ℕ, List, IfOk, OnOk};
 ghost use Rattle.std.specs.List.{list_any};
 ghost use Rattle.tcc_rows.specs.Settling.{gets, is_read, is_read_by, is_read_in, seen_among, unseen_among};
@@ -10,7 +11,7 @@ use std::alloc::Global;
 use std::collections::BTreeSet;
 use tcc_txn::{Bounds, Name, NoMemory, Op, Recorded, SnapshotWithin, Txn};
 
-/// Takes in what an operation writes.
+/// Adds what an operation writes.
 fn note_write(written: &mut BTreeSet<(Name, u64)>, op: &Op) -> Result<(), NoMemory>
     ensures { OnOk result ((w : List ℕ × ℕ) → holds written.new w ≡ (puts w op.now || holds written.old w)) }
 {
@@ -20,7 +21,7 @@ fn note_write(written: &mut BTreeSet<(Name, u64)>, op: &Op) -> Result<(), NoMemo
     Ok(())
 }
 
-/// Takes in what a transaction writes.
+/// Adds what a transaction writes.
 fn note_writes(written: &mut BTreeSet<(Name, u64)>, txn: &Txn) -> Result<(), NoMemory>
     ensures { OnOk result ((w : List ℕ × ℕ) → holds written.new w ≡ (list_any (puts w) txn.now.ops || holds written.old w)) }
 {
@@ -112,7 +113,7 @@ pub(crate) struct Settled {
     pub(crate) unseen: Vec<(Name, Txn)>,
 }
 
-/// Tells those of which a value was read from the others.
+/// Separates those of which a value was read from the others.
 pub(crate) fn settle<B: Bounds>(
     alloc: Global,
     snapshot: &SnapshotWithin<B>,

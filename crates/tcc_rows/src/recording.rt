@@ -5,8 +5,8 @@ ghost use Rattle.tcc_rows.specs.{Ahead.fault_met, Ahead.has_ended, Items.finishe
 ghost use Rattle.tcc_rows.specs.Answers.{Answers, answers_to, answers_within, records_within};
 ghost use Rattle.tcc_rows.specs.Settling.{shown, told, unseen_among, with_shown};
 ghost use Rattle.tcc_rows.specs.private.Waiting.{AddsSome, PassesItems};
-ghost use Rattle.tcc_rows.specs.Reached.{IsWithin, ReaderFailed, last_record, row_reached};
-ghost use Rattle.tcc_rows.specs.Recordings.{FailsBehind, IsRecorded, IsRecording, TakesMoment, after_items};
+ghost use Rattle.tcc_rows.specs.Reached.{IsWithin, ReaderFailed, is_of_record, last_record, record_at, row_reached};
+ghost use Rattle.tcc_rows.specs.Recordings.{FailsBehind, IsRecorded, IsRecording, TakesCheckpoint, after_items};
 ghost use Rattle.tcc_txn.specs.{Finished.IsWithinLimits, Finished.with_transaction, Nested.IsNested, declared.limits.Limits.TheVariants.Small, declared.limits.Limits.TheVariants.Large};
 ghost use Rattle.tcc_rows.specs.declared.rows.Stage.TheVariants as stage;
 
@@ -19,16 +19,16 @@ use tcc_txn::{
     Bounds, LargeLimits, LargeSnapshot, Name, NoMemory, SmallLimits, Snapshot, SnapshotWithin, Txn,
 };
 
-/// Where a recording came to.
+/// What a recording has reached.
 #[derive(Clone, Copy, Debug, PartialEq, Eq)]
-pub enum Moment {
+pub enum Checkpoint {
     /// A seal: an answer is wanted for what was finished so far.
     Seal,
     /// There are no more records.
     End,
 }
 
-/// The snapshot of what a reader's records have finished so far, within the limits that `B` stands for, and the transactions of
+/// The snapshot of what a reader's records have finished so far, under the limits that `B` names, and the transactions of
 /// unknown outcome of which nobody has read a value.
 #[derive(Drop)]
 pub struct RecordingWithin<R, B: Bounds> {
@@ -44,7 +44,7 @@ pub type Recording<R> = RecordingWithin<R, SmallLimits>;
 pub type LargeRecording<R> = RecordingWithin<R, LargeLimits>;
 
 impl<R: Read + Drop, B: Bounds> RecordingWithin<R, B> {
-    /// Nothing is read yet; the reader is gone where memory is refused.
+    /// Nothing is read yet. If memory is refused, the reader is dropped.
     pub fn new(alloc: Global, reader: R) -> Result<RecordingWithin<R, B>, NoMemory>
         ensures recording { IfOk result (λ recording. IfSome (R.remaining reader) (λ text. IsRecording B.limits R.remaining recording [] (answers_within B.limits text))) }
         ensures within { IfOk result (λ recording. IfSome (R.remaining reader) (λ text. IsWithin R.remaining recording.rows (records_within B.limits text))) }
@@ -57,22 +57,27 @@ impl<R: Read + Drop, B: Bounds> RecordingWithin<R, B> {
         })
     }
 
-    /// Reads on to the next seal or to the end; after the end there is the end, after a fault that fault.
-    pub fn advance(&mut self, alloc: Global) -> Result<Moment, RowFault>
-        ensures moment { (taken : List Item) (ahead : Answers) → IsRecording B.limits R.remaining self.old taken ahead
-            → TakesMoment B.limits R.remaining taken ahead result self.new }
+    /// Reads on to the next seal or to the end. After the end it returns the end, after a fault that fault.
+    pub fn advance(&mut self, alloc: Global) -> Result<Checkpoint, RowFault>
+        ensures checkpoint { (taken : List Item) (ahead : Answers) → IsRecording B.limits R.remaining self.old taken ahead
+            → TakesCheckpoint B.limits R.remaining taken ahead result self.new }
         ensures within { (all : List Record) → IsWithin R.remaining self.old.rows all → IsWithin R.remaining self.new.rows all }
 
-        // Whatever is known of the bytes, what was finished stays, and each session only goes on.
+        // Whatever is known of the bytes, what was finished stays, and each session only grows.
         ensures continues { IsNested self.old.snapshot self.new.snapshot }
 
-        // Whatever is known of the bytes, a fault stands at the record that was read last, or at the
-        // one after it where its reading failed; and only a reader that failed makes it `Read`.
+        // Whatever is known of the bytes, a fault is at the record that was read last, or at the one after it if its reading
+        // failed. Only a failed reader makes it `Read`.
         ensures row { IfErr result (λ fault. fault_met self.old.rows ≡ None → fault.row ≡ row_reached self.new.rows) }
         ensures read { IfErr result (λ fault. fault_met self.old.rows ≡ None → fault.kind ≡ RowFaultKind.Read → ReaderFailed self.new.rows) }
 
-        // Where a record can't be read, all before it are lawful, and the items so far are theirs: those that were taken, and
-        // then some without a seal.
+        // Where the fault is one of a record, that was read last.
+        ensures faulty { IfErr result (λ fault. fault_met self.old.rows ≡ None → is_of_record fault.kind ≡ true
+            → (all : List Record) (taken : List Item) (ahead : Answers) → IsWithin R.remaining self.old.rows all
+            → IsRecording B.limits R.remaining self.old taken ahead → last_record self.new.rows ≡ record_at fault.row all) }
+
+        // If a record can't be read, all before it are lawful. Their items are those that were taken, and then some without a
+        // seal.
         ensures failed { IfErr result (λ fault. fault_met self.old.rows ≡ None → fault.kind ≡ RowFaultKind.Read
             → (all : List Record) (taken : List Item) (ahead : Answers) → answers_to B.limits all ≡ after_items taken ahead
             → IsWithin R.remaining self.old.rows all → IsRecording B.limits R.remaining self.old taken ahead → FailsBehind B.limits taken fault.row all) }
@@ -81,52 +86,55 @@ impl<R: Read + Drop, B: Bounds> RecordingWithin<R, B> {
         ensures stops { IfErr result (λ fault. fault_met self.new.rows ≡ Some fault) }
         ensures stays_stopped { IfSome (fault_met self.old.rows) (λ fault. result ≡ Err fault) }
         ensures goes_on { OnOk result (fault_met self.new.rows ≡ None) }
-        ensures ends { result ≡ Ok Moment.End → has_ended self.new.rows ≡ true }
-        ensures stays_ended { has_ended self.old.rows ≡ true → result ≡ Ok Moment.End }
+        ensures ends { result ≡ Ok Checkpoint.End → has_ended self.new.rows ≡ true }
+        ensures stays_ended { has_ended self.old.rows ≡ true → result ≡ Ok Checkpoint.End }
     {
         if self.rows.has_ended() {
-            return Ok(Moment::End);
+            return Ok(Checkpoint::End);
         }
-        let moment = self.pass_items(alloc)?;
+        let checkpoint = self.pass_items(alloc)?;
         self.settle(alloc)?;
-        match moment {
-            Moment::Seal => {}
+        match checkpoint {
+            Checkpoint::Seal => {}
             // Nobody will read more.
-            Moment::End => self.pending.clear(),
+            Checkpoint::End => self.pending.clear(),
         }
-        Ok(moment)
+        Ok(checkpoint)
     }
 
     /// Reads on to the next seal or to the end, where nothing is settled yet.
-    fn pass_items(&mut self, alloc: Global) -> Result<Moment, RowFault>
+    fn pass_items(&mut self, alloc: Global) -> Result<Checkpoint, RowFault>
         ensures passed { (taken : List Item) (ahead : Answers) → IsRecording B.limits R.remaining self.old taken ahead
             → PassesItems B.limits R.remaining taken ahead result self.new }
         ensures within { (all : List Record) → IsWithin R.remaining self.old.rows all → IsWithin R.remaining self.new.rows all }
         ensures continues { IsNested self.old.snapshot self.new.snapshot }
         ensures row { IfErr result (λ fault. fault_met self.old.rows ≡ None → fault.row ≡ row_reached self.new.rows) }
         ensures read { IfErr result (λ fault. fault_met self.old.rows ≡ None → fault.kind ≡ RowFaultKind.Read → ReaderFailed self.new.rows) }
+        ensures faulty { IfErr result (λ fault. fault_met self.old.rows ≡ None → is_of_record fault.kind ≡ true
+            → (all : List Record) (taken : List Item) (ahead : Answers) → IsWithin R.remaining self.old.rows all
+            → IsRecording B.limits R.remaining self.old taken ahead → last_record self.new.rows ≡ record_at fault.row all) }
         ensures failed { IfErr result (λ fault. fault_met self.old.rows ≡ None → fault.kind ≡ RowFaultKind.Read
             → (all : List Record) (taken : List Item) (ahead : Answers) → answers_to B.limits all ≡ after_items taken ahead
             → IsWithin R.remaining self.old.rows all → IsRecording B.limits R.remaining self.old taken ahead → FailsBehind B.limits taken fault.row all) }
         ensures stops { IfErr result (λ fault. fault_met self.new.rows ≡ Some fault) }
         ensures stays_stopped { IfSome (fault_met self.old.rows) (λ fault. result ≡ Err fault) }
         ensures goes_on { OnOk result (fault_met self.new.rows ≡ None) }
-        ensures ends { result ≡ Ok Moment.End → has_ended self.new.rows ≡ true }
-        ensures sealed { result ≡ Ok Moment.Seal → self.new.rows.stage ≡ stage.Reading }
+        ensures ends { result ≡ Ok Checkpoint.End → has_ended self.new.rows ≡ true }
+        ensures sealed { result ≡ Ok Checkpoint.Seal → self.new.rows.stage ≡ stage.Reading }
     {
         'items: for _turn in 0..u64::MAX {
             match self.rows.next(alloc)? {
                 Item::Finished(session, txn) => self.take(alloc, session, txn)?,
                 Item::Unknown(session, txn) => self.wait(session, txn)?,
-                Item::Seal => return Ok(Moment::Seal),
-                Item::End => return Ok(Moment::End),
+                Item::Seal => return Ok(Checkpoint::Seal),
+                Item::End => return Ok(Checkpoint::End),
             }
         }
-        // So many transactions are held by no memory.
+        // No memory holds that many transactions.
         Err(self.rows.give_up(RowFaultKind::NoMemory))
     }
 
-    /// Nobody told how a transaction of the session ended.
+    /// A transaction of the session ended with unknown outcome.
     fn wait(&mut self, session: Name, txn: Txn) -> Result<(), RowFault>
         ensures kept { self.new.snapshot ≡ self.old.snapshot }
         ensures waits { OnOk result ((self.new.pending.items ≡ self.old.pending.items ++ (session, txn) ∷ []) × (self.new.rows ≡ self.old.rows)) }
@@ -199,23 +207,27 @@ impl<R: Read + Drop, B: Bounds> RecordingWithin<R, B> {
 
     /// Reads on to the end, whatever is sealed.
     pub fn pass_seals(&mut self, alloc: Global) -> Result<(), RowFault>
-        ensures { (text : List ℕ) → IsRecording B.limits R.remaining self.old [] (answers_within B.limits text)
+        ensures recorded { (text : List ℕ) → IsRecording B.limits R.remaining self.old [] (answers_within B.limits text)
             → IsWithin R.remaining self.old.rows (records_within B.limits text)
             → fault_met self.old.rows ≡ None
             → MatchResult result (λ done. IsRecorded B.limits text (Ok self.new.snapshot)) (λ fault. IsRecorded B.limits text (Err fault)) }
+        ensures faulty { IfErr result (λ fault. fault_met self.old.rows ≡ None → is_of_record fault.kind ≡ true
+            → (text : List ℕ) → IsRecording B.limits R.remaining self.old [] (answers_within B.limits text)
+            → IsWithin R.remaining self.old.rows (records_within B.limits text)
+            → last_record self.new.rows ≡ record_at fault.row (records_within B.limits text)) }
     {
         'seals: for _turn in 0..u64::MAX {
             match self.advance(alloc)? {
-                Moment::Seal => {}
-                Moment::End => return Ok(()),
+                Checkpoint::Seal => {}
+                Checkpoint::End => return Ok(()),
             }
         }
-        // There are not so many seals.
+        // There are never that many seals.
         Err(self.rows.give_up(RowFaultKind::NoMemory))
     }
 
-    /// The field at an index, counted from 0, of the record that was read last: of the one with the fault, where its row is
-    /// that of a record.
+    /// The field at an index, counted from 0, of the record that was read last. That is the record of the fault, if the
+    /// fault's row is that of a record.
     pub fn last_field(&self, index: usize) -> Option<&[u8]>
         ensures { option_map (λ field. field.now) result ≡ field_at (last_record self.now.rows) index }
     {
@@ -231,7 +243,7 @@ impl<R: Read + Drop, B: Bounds> RecordingWithin<R, B> {
     }
 }
 
-/// All that the records of the reader finish within the limits that `B` stands for, whatever they seal.
+/// All that the records of the reader finish under the limits that `B` names, whatever they seal.
 fn recorded<R: Read + Drop, B: Bounds>(
     alloc: Global,
     reader: R,

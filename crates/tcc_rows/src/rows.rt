@@ -1,8 +1,8 @@
-//! Transactions and seals as they come out of records.
-ghost use Rattle.std.specs.Prelude.{◌≡◌, ◌≢◌, ◌+◌, ◌^◌, ◌<◌, ◌≤◌, List, [], length, true, IfOk, IfErr, IfSome, OnOk, MatchResult};
+//! Transactions and seals as they are read from records.
+ghost use Rattle.std.specs.Prelude.{◌≡◌, ◌≢◌, ◌+◌, ◌^◌, ◌<◌, List, [], length, true, IfOk, IfErr, IfSome, OnOk, MatchResult};
 ghost use Rattle.std.specs.Prelude.{None, Some, false, Ok, Err, option_map};
 ghost use Rattle.csv.specs.Records.{field_at};
-ghost use Rattle.tcc_rows.specs.{Standing.IsAfter, private.Turns.line_by, Line.Line};
+ghost use Rattle.tcc_rows.specs.{SessionStates.IsAfter, private.ControlRecords.line_by, Line.Line};
 ghost use Rattle.tcc_rows.specs.Answers.{Answers, answers_after_within, fault_at_end, given_within, records_of, records_within};
 ghost use Rattle.tcc_txn.specs.{declared.limits.Limits.Limits, declared.limits.Limits.TheVariants.Small};
 
@@ -14,7 +14,7 @@ mod records;
 mod seats;
 
 use crate::{RowFault, RowFaultKind};
-use line::{Turn, read_line};
+use line::{ControlRecord, read_line};
 use progress::Progress;
 use records::Records;
 use std::alloc::Global;
@@ -26,7 +26,7 @@ use tcc_txn::{KeyHints, Limits, Name, NoMemory, Txn};
 pub enum Item {
     /// A transaction of the session was finished.
     Finished(Name, Txn),
-    /// A transaction of the session ended, and nobody told how: what it wrote, as it is where it counts as committed.
+    /// A transaction of the session ended with unknown outcome: its writes, as they are if it counts as committed.
     Unknown(Name, Txn),
     /// An answer is wanted for what was finished so far.
     Seal,
@@ -41,7 +41,7 @@ enum Stage {
     Reading,
     /// There are none.
     Ended,
-    /// A fault was met.
+    /// A fault was reached.
     Stopped(RowFault),
 }
 
@@ -72,11 +72,11 @@ impl<R: Read + Drop> Rows<R> {
     ghost use Rattle.tcc_rows.specs.{Failing.FailsAtWithin, Failing.given_before_within, private.Failing.FailsIn, Midway.IsMidway, private.StagesAfter.stage_after_line, Recordings.HasSealsBefore, Recordings.after_items, declared.rows.Item.Item};
     ghost use Rattle.tcc_rows.specs.Ahead.{FaultsIn, IsAhead, TakesAnswer, fault_met, has_ended, stage_after};
     ghost use Rattle.tcc_rows.specs.Lines.{Record, is_cut, line_of};
-    ghost use Rattle.tcc_rows.specs.Reached.{HasGivenUp, IsWithin, ReaderFailed, StandsBy, StandsIn, last_record, row_reached};
-    ghost use Rattle.tcc_rows.specs.private.Stages.{LeavesIn, MeetsLine, TakesFields, TakesItem, TakesLine};
+    ghost use Rattle.tcc_rows.specs.Reached.{HasGivenUp, IsWithin, ReaderFailed, StandsBy, StandsIn, is_of_record, last_record, record_at, row_reached};
+    ghost use Rattle.tcc_rows.specs.private.Stages.{LeavesIn, MeetsLine, StopsIn, TakesFields, TakesItem, TakesLine};
     ghost use Rattle.tcc_rows.specs.declared.rows.records.RecordsStage.TheVariants as records_stage;
 
-    /// The rows of what the reader gives; it is gone where memory is refused.
+    /// The rows of what the reader gives. If memory is refused, the reader is dropped.
     pub fn new(alloc: Global, reader: R) -> Result<Rows<R>, NoMemory>
         ensures ahead { IfOk result (λ rows. IfSome (R.remaining reader) (λ text. IsAhead Small R.remaining rows (given_within Small text))) }
         ensures within { IfOk result (λ rows. IfSome (R.remaining reader) (λ text. IsWithin R.remaining rows (records_of text))) }
@@ -85,7 +85,7 @@ impl<R: Read + Drop> Rows<R> {
         Rows::within(alloc, reader, Limits::Small)
     }
 
-    /// The rows of what the reader gives, within the limits given; it is gone where memory is refused.
+    /// The rows of what the reader gives, under the given limits. If memory is refused, the reader is dropped.
     pub fn within(alloc: Global, reader: R, limits: Limits) -> Result<Rows<R>, NoMemory>
         ensures ahead { IfOk result (λ rows. IfSome (R.remaining reader) (λ text. IsAhead limits R.remaining rows (given_within limits text))) }
         ensures within { IfOk result (λ rows. IfSome (R.remaining reader) (λ text. IsWithin R.remaining rows (records_within limits text))) }
@@ -99,7 +99,7 @@ impl<R: Read + Drop> Rows<R> {
         })
     }
 
-    /// The next item, or the first fault; after `End` there is `End`, after a fault that fault.
+    /// The next item, or the first fault. After `End` it returns `End`, after a fault that fault.
     pub fn next(&mut self, alloc: Global) -> Result<Item, RowFault>
         ensures answers { (limits : Limits) (ahead : Answers) → IsAhead limits R.remaining self.old ahead
             → TakesAnswer limits R.remaining ahead result self.new }
@@ -107,12 +107,16 @@ impl<R: Read + Drop> Rows<R> {
         // The records are those of the text in turn, and none is passed uncounted.
         ensures within { (all : List Record) → IsWithin R.remaining self.old all → IsWithin R.remaining self.new all }
 
-        // Whatever is known of the bytes, a fault stands at the record that was read last, or at the
-        // one after it where its reading failed; and only a reader that failed makes it `Read`.
+        // Whatever is known of the bytes, a fault is at the record that was read last, or at the one after it if its reading
+        // failed. Only a failed reader makes it `Read`.
         ensures row { IfErr result (λ fault. fault_met self.old ≡ None → fault.row ≡ row_reached self.new) }
         ensures read { IfErr result (λ fault. fault_met self.old ≡ None → fault.kind ≡ RowFaultKind.Read → ReaderFailed self.new) }
 
-        // Where a record can't be read, all before it are lawful, and the items so far are theirs.
+        // Where the fault is one of a record, that was read last.
+        ensures faulty { IfErr result (λ fault. fault_met self.old ≡ None → is_of_record fault.kind ≡ true
+            → (all : List Record) → IsWithin R.remaining self.old all → last_record self.new ≡ record_at fault.row all) }
+
+        // If a record can't be read, all before it are lawful, and the items so far are theirs.
         ensures failed { IfErr result (λ fault. fault_met self.old ≡ None → fault.kind ≡ RowFaultKind.Read
             → (limits : Limits) (all : List Record) (taken : List Item) (ahead : Answers) → answers_after_within limits [] all ≡ after_items taken ahead
             → IsWithin R.remaining self.old all → IsAhead limits R.remaining self.old ahead
@@ -146,7 +150,7 @@ impl<R: Read + Drop> Rows<R> {
         }
     }
 
-    /// Whether the end was met.
+    /// Whether the end was reached.
     pub(crate) fn has_ended(&self) -> bool
         ensures { result ≡ has_ended self.now }
     {
@@ -165,7 +169,7 @@ impl<R: Read + Drop> Rows<R> {
         self.progress.key_hints()
     }
 
-    /// Keeps the fault for all later answers.
+    /// Keeps the fault for all later calls.
     fn stop(&mut self, fault: &RowFault)
         ensures { self.new ≡ record self.old { stage = Stage.Stopped fault.now } }
     {
@@ -192,7 +196,7 @@ impl<R: Read + Drop> Rows<R> {
         fault
     }
 
-    /// Goes past records up to the next item.
+    /// Passes records up to the next item.
     fn advance(&mut self, alloc: Global) -> Result<Item, RowFault>
         requires { self.old.stage ≡ Stage.Reading }
         ensures item { IfOk result (λ given. (limits : Limits) (ahead : Answers) → IsMidway limits R.remaining self.old ahead
@@ -204,7 +208,7 @@ impl<R: Read + Drop> Rows<R> {
         ensures row { IfErr result (λ fault. fault.row ≡ row_reached self.new) }
         ensures read { IfErr result (λ fault. fault.kind ≡ RowFaultKind.Read → ReaderFailed self.new) }
         ensures within { (all : List Record) → StandsIn R.remaining self.old.records all
-            → MatchResult result (λ given. StandsBy self.new.stage R.remaining self.new.records all) (λ fault. self.new.records.count ≤ length all) }
+            → MatchResult result (λ given. StandsBy self.new.stage R.remaining self.new.records all) (λ fault. StopsIn fault.kind all self.new.records) }
     {
         'records: loop {
             match self.pass_line(alloc) {
@@ -215,7 +219,7 @@ impl<R: Read + Drop> Rows<R> {
         }
     }
 
-    /// Goes past one line that is no operation, or to the end.
+    /// Passes one line that is not an operation, or the end.
     fn pass_line(&mut self, alloc: Global) -> Result<Option<Item>, RowFault>
         requires { self.old.stage ≡ Stage.Reading }
         ensures line { (limits : Limits) (ahead : Answers) → IsMidway limits R.remaining self.old ahead → TakesLine limits R.remaining ahead result self.new }
@@ -225,7 +229,7 @@ impl<R: Read + Drop> Rows<R> {
         ensures failed { IfErr result (λ fault. fault.kind ≡ RowFaultKind.Read → (limits : Limits) (all : List Record) (ahead : Answers)
             → StandsIn R.remaining self.old.records all → IsMidway limits R.remaining self.old ahead → FailsIn limits all ahead fault.row) }
         ensures within { (all : List Record) → StandsIn R.remaining self.old.records all
-            → MatchResult result (λ given. StandsBy self.new.stage R.remaining self.new.records all) (λ fault. self.new.records.count ≤ length all) }
+            → MatchResult result (λ given. StandsBy self.new.stage R.remaining self.new.records all) (λ fault. StopsIn fault.kind all self.new.records) }
         ensures more { result ≡ Ok None → self.old.records.count < self.new.records.count }
         ensures fits { result ≡ Ok None → self.new.records.count < 2 ^ 64 }
     {
@@ -236,8 +240,8 @@ impl<R: Read + Drop> Rows<R> {
         }
     }
 
-    /// Goes past operations, and gives what the record after them says, if there is one.
-    fn next_line(&mut self) -> Result<Option<Turn>, RowFaultKind>
+    /// Passes operations, and returns what the record after them says, if there is one.
+    fn next_line(&mut self) -> Result<Option<ControlRecord>, RowFaultKind>
         ensures line { (limits : Limits) (ahead : Answers) → IsMidway limits R.remaining self.old ahead → MeetsLine limits R.remaining ahead result self.new }
         ensures stage { self.new.stage ≡ self.old.stage }
         ensures read { IfErr result (λ kind. kind ≡ RowFaultKind.Read → HasGivenUp self.new.records) }
@@ -266,8 +270,8 @@ impl<R: Read + Drop> Rows<R> {
         }
     }
 
-    /// Goes past the record read last, which says this.
-    fn take_line(&mut self, alloc: Global, turn: Turn) -> Result<Option<Item>, RowFault>
+    /// Passes the record that was read last, which says this.
+    fn take_line(&mut self, alloc: Global, turn: ControlRecord) -> Result<Option<Item>, RowFault>
         ensures fields { (limits : Limits) (past : List Line) (fields : Record) → IsAfter limits past self.old.progress
             → row_reached self.old ≡ length past + 1
             → is_cut fields ≡ false → line_of fields ≡ Ok (line_by turn) → TakesFields limits past fields result self.new }
@@ -294,6 +298,7 @@ impl<R: Read + Drop> Rows<R> {
         ensures records { self.new.records ≡ self.old.records }
         ensures row { IfErr result (λ fault. fault.row ≡ row_reached self.new) }
         ensures read { IfErr result (λ fault. fault.kind ≢ RowFaultKind.Read) }
+        ensures other { IfErr result (λ fault. is_of_record fault.kind ≡ false) }
     {
         match self.progress.unfinished() {
             Some(session) => Err(self.fault(RowFaultKind::Unfinished { session })),

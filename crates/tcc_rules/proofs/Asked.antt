@@ -1,4 +1,4 @@
--- Rules asked one after the other, and the same rules in other words.
+-- Rules checked one after the other, and the same rules stated in another way.
 use Rattle.std.proofs.Common.{◌≡◌, ◌↔◌, refl, ℕ, inl, inr, List, [], ◌∷◌, ◌++◌, Result, Ok, Err}
 use Rattle.std.specs.Prelude.{IfOk}
 use Rattle.tcc_graph.specs.Levels.{Judged}
@@ -34,14 +34,14 @@ pub all_hold : {R : Type 0} (rules : List (Asked R)) (answer : Verdict R) → an
 all_hold rules verdict.Accepted accepted said = said
 all_hold rules (verdict.Rejected rule at) accepted said = absurd cc
 
--- a rule whose positions are told by other words, before one that is broken nowhere
+-- a rule whose positions are stated in another way, before one that is broken nowhere
 pub one_as : {R : Type 0} (a b : R) (P P' Q : ℕ × ℕ → Type 0) → ((at : ℕ × ℕ) → P at ↔ P' at) → ((at : ℕ × ℕ) → Q at → ⊥) → (answer : Verdict R)
     → IsVerdictOf (at_each a P ∷ []) answer → IsVerdictOf (at_each a P' ∷ at_each b Q ∷ []) answer
 one_as a b P P' Q p none verdict.Accepted said = (nowhere_as P P' (λ at. (p at).1) said.0, (none, tt))
 one_as a b P P' Q p none (verdict.Rejected rule at) (inl here) = inl (here.0, first_as P P' (λ at. (p at).0) (λ at. (p at).1) at here.1)
 one_as a b P P' Q p none (verdict.Rejected rule at) (inr behind) = absurd behind.1
 
--- two rules whose positions are told by other words
+-- two rules whose positions are stated in another way
 module _ {R : Type 0} (a b : R) (P Q P' Q' : ℕ × ℕ → Type 0) (p : (at : ℕ × ℕ) → P at ↔ P' at) (q : (at : ℕ × ℕ) → Q at ↔ Q' at) where
   pub two_as : (answer : Verdict R) → IsVerdictOf (at_each a P ∷ at_each b Q ∷ []) answer → IsVerdictOf (at_each a P' ∷ at_each b Q' ∷ []) answer
   two_as verdict.Accepted said = (nowhere_as P P' (λ at. (p at).1) said.0, (nowhere_as Q Q' (λ at. (q at).1) said.1.0, tt))
@@ -66,7 +66,7 @@ not_broken [] apart all rule at broken = broken
 not_broken (asked ∷ later) apart all rule at (inl broken) = apart.0 at broken.1 all.0
 not_broken (asked ∷ later) apart all rule at (inr after) = not_broken later apart.1 all.1 rule at after.1
 
--- so where all hold the verdict is that
+-- where all hold, the verdict says so
 pub accepted_by : {R : Type 0} (rules : List (Asked R)) → AreApart rules → AllHold rules → (said : Verdict R) → IsVerdictOf rules said → said ≡ verdict.Accepted
 accepted_by rules apart all verdict.Accepted is = refl
 accepted_by rules apart all (verdict.Rejected rule at) is = absurd (not_broken rules apart all rule at is)

@@ -38,7 +38,7 @@ left_of : (j : Judged) (most : ℕ) (links : List Link) (judge : LinksJudge) →
 left_of j most links judge is =
     subst (λ (z : List Link). MatchOption judge.seen.left (most < cost z) (λ left. cost z + left ≡ most)) (take_whole links) (all_seen j most links judge is).left
 
--- they cost more than they are to, or don't
+-- they cost more than they should, or they don't
 pub cost_over : (j : Judged) (most : ℕ) (links : List Link) (judge : LinksJudge) → AreJudged j most links judge → judge.seen.left ≡ None
     → IsTrue true ↔ (most < cost links)
 cost_over j most links judge is none = let over = rw none at (left_of j most links judge is) in ((λ _. over), (λ _. refl))

@@ -1,4 +1,4 @@
--- What is known of a walk, one step more, and of all of some, one more.
+-- What is known of a walk with one more step, and of all items of a list with one more.
 use Rattle.std.proofs.Common.{◌≡◌, ◌↔◌, ◌∙◌, ◌+◌, ℕ, Bool, true, false, Option, Some, List, [], ◌∷◌, ◌++◌, refl, sym, subst, arith}
 use Rattle.std.proofs.Common.{length-append}
 use Rattle.std.specs.Prelude.{IsTrue}
@@ -41,7 +41,7 @@ known_none h from = record {
   below = ((λ _. All-nil (IsStepBelow (count h))), (λ _. refl));
 }
 
--- one step more leads on where the steps before lead to where it begins
+-- one more step leads on where the steps before it lead to where it begins
 led_more : (h : History) (from : ℕ) (walk : List Step) (s : Step) (old new : Option ℕ) → ((to : ℕ) → (old ≡ Some to) ↔ Leads h from to walk)
     → ((to : ℕ) → (new ≡ Some to) ↔ ((old ≡ Some (step_from s)) × IsStep h s × (step_to s ≡ to)))
     → (to : ℕ) → (new ≡ Some to) ↔ Leads h from to (walk ++ s ∷ [])

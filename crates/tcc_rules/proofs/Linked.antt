@@ -50,7 +50,7 @@ module _ (j : Judged) (links : List Link) (i : ℕ) (l : Link) (inside : i < len
     first = λ n lt other. so_far n (omega (arith, lt)) other;
   }
 
-  -- the first wrong one of one more
+  -- the first wrong link, with one more link
   wrong_next : (found : Option ℕ) (right : Bool) → IsTrue right ↔ IsLinkRight j (ends_at from (take i links)) l
       → MatchOption found ((n : ℕ) → n ≤ i → IsWrongFrom j from links n → ⊥) (IsFirstWrongFrom j from links)
       → MatchOption (first_wrong found right (i + 1)) ((n : ℕ) → n ≤ i + 1 → IsWrongFrom j from links n → ⊥) (IsFirstWrongFrom j from links)
@@ -64,7 +64,7 @@ module _ (j : Judged) (links : List Link) (i : ℕ) (l : Link) (inside : i < len
   long : length (take i links) ≡ i
   long = length-take-le i links (omega (arith, inside))
 
-  -- what is left of one more
+  -- what is left of the cost, with one more link
   left_next : (least : ℕ) (left : Option ℕ) → MatchOption left (least < cost (take i links)) (λ left. cost (take i links) + left ≡ least)
       → MatchOption (left_behind left (link_cost l)) (least < cost (take (i + 1) links)) (λ left. cost (take (i + 1) links) + left ≡ least)
   left_next least (Some left) so_far = go (nat_lt left (link_cost l)) refl
@@ -153,7 +153,7 @@ module _ (j : Judged) (most : ℕ) (links : List Link) where
   pub fault_wrong : (n : ℕ) → IsFirstWrongFrom j (begins_at links) links n → begins_at links ≡ ends_at 0 links → IsLinksFault j most links (n, 0)
   fault_wrong n found closed = inl (as_wrong closed n found.wrong, (refl, λ m lt w. found.first m lt (wrong_as closed m w)))
 
-  -- they cost another sum
+  -- they have another cost
   pub fault_cost : ((n : ℕ) → n ≤ length links → IsWrongFrom j (begins_at links) links n → ⊥) → begins_at links ≡ ends_at 0 links
       → (cost links ≡ most → ⊥) → IsLinksFault j most links (0, 0)
   fault_cost right closed other = inr (refl, (none_wrong right closed, λ all. other all.costs))

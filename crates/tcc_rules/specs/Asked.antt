@@ -1,4 +1,4 @@
--- Rules asked of a claim in turn, and the verdict on it: that all hold, or the first that is broken and where it is first.
+-- Rules checked of a claim in turn, and the verdict on it: that all hold, or the first that is broken and where it is broken first.
 use Rattle.std.specs.Prelude.{ℕ, ◌≡◌, ◌⊎◌, List, [], ◌∷◌}
 use Rattle.tcc_graph.specs.Levels.{Judged}
 use Rattle.tcc_graph.specs.declared.link.Link.{Link}
@@ -8,7 +8,7 @@ use Rattle.tcc_cert.specs.Tables.{IsFirstAt}
 use Rattle.tcc_rules.specs.declared.verdict.Verdict.{Verdict}
 use Rattle.tcc_rules.specs.declared.verdict.Verdict.TheVariants as verdict
 
--- a rule asked of a claim: that it holds, and what is named where it does not
+-- a rule for a claim: when it holds, and which position is named where it does not
 pub record Asked (R : Type 0) : Type 1 where
   pub rule : R
   pub holds : Type 0
@@ -22,7 +22,8 @@ as_whole rule holds = record { rule = rule; holds = holds; broken = λ at. (at �
 abbrev pub at_each : {R : Type 0} → R → (ℕ × ℕ → Type 0) → Asked R
 at_each rule broken = record { rule = rule; holds = HoldsEverywhere broken; broken = IsFirstAt broken }
 
--- the rule that links, one at least, are a cycle of this cost: the first that is not right is named, from 1, or, where all are, 0
+-- the rule that links, at least one, are a cycle of this cost; it names the first that is not right, counted from 1, or 0 where each is
+-- right
 abbrev pub of_links : {R : Type 0} → R → Judged → ℕ → List Link → Asked R
 of_links rule j most links = record { rule = rule; holds = AreLinksRight j most links; broken = IsLinksFault j most links }
 
@@ -36,7 +37,7 @@ abbrev pub IsFirstBroken : {R : Type 0} → List (Asked R) → R → ℕ × ℕ 
 IsFirstBroken [] rule at = ⊥
 IsFirstBroken (asked ∷ later) rule at = ((rule ≡ asked.rule) × asked.broken at) ⊎ (asked.holds × IsFirstBroken later rule at)
 
--- accepted exactly where all of them hold, else the first broken one and where
+-- accepted exactly where all of them hold, else the first broken one and its position
 abbrev pub IsVerdictOf : {R : Type 0} → List (Asked R) → Verdict R → Type 0
 IsVerdictOf rules verdict.Accepted = AllHold rules
 IsVerdictOf rules (verdict.Rejected rule at) = IsFirstBroken rules rule at

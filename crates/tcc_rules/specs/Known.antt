@@ -9,7 +9,7 @@ use Rattle.tcc_graph.specs.declared.step.Step.{Step}
 use Rattle.tcc_rules.specs.declared.known.KnownLink.{KnownLink}
 use Rattle.tcc_rules.specs.declared.known.KnownWalk.{KnownWalk}
 
--- of steps from there: how many they are, where they lead, if they do, and whether their numbers are below that of the transactions
+-- of steps from there: how many they are, where they lead, if they do, and whether their numbers are below the count of transactions
 pub record IsKnownWalk (h : History) (from : ℕ) (walk : List Step) (known : KnownWalk) : Type 0 where
   pub counted : known.steps ≡ length walk
   pub leads : (to : ℕ) → (known.end ≡ Some to) ↔ Leads h from to walk

@@ -1,5 +1,5 @@
-//! What the rule on links asks of a link. Where its walk comes step by step, none of the steps is held: how many there are and where
-//! they lead is all that is asked of them. Each step takes one question of the graph.
+//! What the rule on links asks about a link. Where its walk comes step by step, none of the steps is held: it is
+//! enough to know how many there are and where they lead. Each step takes one query of the graph.
 ghost use Rattle.std.specs.Prelude.{◌≡◌, ◌<◌, ◌++◌, ◌∷◌, ◌↔◌, ℕ, List, [], All, IfOk, IsTrue, OnOk, Some, length};
 ghost use Rattle.tcc_reads.specs.History.{History, count};
 ghost use Rattle.tcc_graph.specs.{Levels.IsAllowed, Levels.IsAllowedWalk, Levels.judged, Links.IsLink, Links.MayContradict, Links.link_cost, Links.link_from};
@@ -16,9 +16,9 @@ use tcc_txn::{Name, NoMemory};
 pub struct KnownWalk {
     /// How many steps there are.
     steps: usize,
-    /// Where they lead; none where one of them is none of the history, or does not begin where the one before it ends.
+    /// Where they lead; none where one of them is not of the history, or does not begin where the one before it ends.
     end: Option<u32>,
-    /// Whether all their numbers are below that of the transactions.
+    /// Whether all their numbers are below the count of transactions.
     are_below: bool,
 }
 
@@ -29,7 +29,7 @@ fn is_step(graph: &LargeGraph, step: &Step) -> bool
     graph.is_link(Level::Causal, &Link::of(*step))
 }
 
-/// Where steps lead that led there, with one more.
+/// Where steps that led to `end` lead with one more.
 fn led_on(graph: &LargeGraph, end: Option<u32>, step: &Step) -> Option<u32>
     ensures { (to : ℕ) → (result ≡ Some to) ↔ ((end ≡ Some (step_from step.now)) × IsStep graph.now step.now × (step_to step.now ≡ to)) }
 {
@@ -40,7 +40,7 @@ fn led_on(graph: &LargeGraph, end: Option<u32>, step: &Step) -> Option<u32>
     Some(step.to())
 }
 
-/// Whether the numbers of some steps, and those of one more, are below that of the transactions.
+/// Whether the numbers of some steps, and those of one more, are below the count of transactions.
 fn are_steps_below(graph: &LargeGraph, are_below: bool, step: &Step) -> bool
     ensures { (walk : List Step) → (IsTrue are_below ↔ All (IsStepBelow (count graph.now)) walk)
         → IsTrue result ↔ All (IsStepBelow (count graph.now)) (walk ++ step.now ∷ []) }
@@ -51,7 +51,7 @@ fn are_steps_below(graph: &LargeGraph, are_below: bool, step: &Step) -> bool
     step.is_below(graph.count())
 }
 
-/// Whether a level allows a walk of so many steps.
+/// Whether a level allows a walk of this many steps.
 fn is_allowed(level: Level, steps: usize) -> bool
     ensures { (walk : List Step) → steps ≡ length walk → IsTrue result ↔ ((0 < length walk) × IsAllowed level walk) }
 {
@@ -62,7 +62,7 @@ fn is_allowed(level: Level, steps: usize) -> bool
 }
 
 impl KnownWalk {
-    /// No step yet, of a walk that begins there.
+    /// No step yet, of a walk that begins at `from`.
     pub fn new(from: u32) -> KnownWalk
         ensures { (h : History) → IsKnownWalk h from [] result }
     {
@@ -73,7 +73,7 @@ impl KnownWalk {
         }
     }
 
-    /// One step more. Memory is refused only where 64 bits don't count the steps: no text has so many.
+    /// One more step. Memory is refused only where 64 bits can't count the steps, and no text has so many.
     pub fn push(&mut self, graph: &LargeGraph, step: &Step) -> Result<(), NoMemory>
         ensures { OnOk result ((from : ℕ) (walk : List Step) → IsKnownWalk graph.now from walk self.old
             → IsKnownWalk graph.now from (walk ++ step.now ∷ []) self.new) }
@@ -87,7 +87,7 @@ impl KnownWalk {
         Ok(())
     }
 
-    /// Whether all numbers of the link with this walk are below that of the transactions.
+    /// Whether all numbers of the link with this walk are below the count of transactions.
     pub fn is_link_below(&self, graph: &LargeGraph, head: &Link) -> bool
         ensures { (from : ℕ) (walk : List Step) → IsKnownWalk graph.now from walk self.now
             → IsTrue result ↔ IsLinkBelow (count graph.now) (with_walk head.now walk) }
@@ -106,7 +106,7 @@ impl KnownWalk {
         }
     }
 
-    /// Whether it leads there and the level allows it.
+    /// Whether the walk leads to `to` and the level allows it.
     fn leads_to(&self, level: Level, to: u32) -> bool
         ensures { (h : History) (from : ℕ) (walk : List Step) → IsKnownWalk h from walk self.now
             → IsTrue result ↔ IsAllowedWalk (judged h level) from to walk }
@@ -141,7 +141,7 @@ fn may_contradict(graph: &LargeGraph, from: u32, to: u32, key: &Name, reader: u3
     from != to && graph.is_link(Level::Causal, &read) && graph.is_writer(from, key)
 }
 
-/// What the rule asks of a link.
+/// What the rule asks about a link.
 #[derive(Clone, Copy)]
 pub struct KnownLink {
     /// Where it begins.
@@ -155,7 +155,7 @@ pub struct KnownLink {
 }
 
 impl KnownLink {
-    /// Of a link that is held.
+    /// What is known of a link that is held.
     pub fn of(graph: &LargeGraph, level: Level, link: &Link) -> KnownLink
         ensures { IsKnownLink (judged graph.now level) link.now result }
     {
@@ -167,7 +167,8 @@ impl KnownLink {
         }
     }
 
-    /// Of a link without its walk, and what is known of that. Memory is refused only where 64 bits don't count its steps.
+    /// What is known of a link without its walk, and with what is known of that. Memory is refused only where 64 bits can't
+    /// count its steps.
     pub fn of_walk(
         graph: &LargeGraph,
         level: Level,

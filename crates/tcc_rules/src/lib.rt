@@ -1,5 +1,5 @@
-//! What the rules say of a certificate: the verdict that is answered, and the rule on the links of a cycle, judged one after the
-//! other. The checker and the judge of version 3 have it in common.
+//! What the rules say of a certificate: the verdict, and the rule on the links of a cycle, judged one after the other. The
+//! checker and the judge of version 3 share it.
 #![tactic(auto)]
 
 mod judgement;

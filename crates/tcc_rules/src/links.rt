@@ -13,7 +13,7 @@ use tcc_txn::NoMemory;
 pub struct LinksSeen {
     /// Where the first of them begins, and where the last ends.
     ends: Option<(u32, u32)>,
-    /// The first, from 1, that is none of the history, or does not begin where the one before it ends.
+    /// The first, counted from 1, that is not of the history, or does not begin where the one before it ends.
     wrong: Option<usize>,
     /// What is left of the cost that is claimed; none where they cost more.
     left: Option<usize>,
@@ -26,7 +26,7 @@ fn is_link_right(at: u32, known: KnownLink) -> bool
     known.from == at && known.is_link
 }
 
-/// Where the first link begins and the last ends; where there is none yet, a link that comes is to begin where it does.
+/// Where the first link begins and the last ends. Where there is none yet, both are where the next link begins.
 fn ends_or(ends: Option<(u32, u32)>, from: u32) -> (u32, u32)
     ensures { result ≡ ends_or ends from }
 {
@@ -46,7 +46,7 @@ fn first_wrong(wrong: Option<usize>, is_right: bool, number: usize) -> Option<us
     }
 }
 
-/// What is left behind one more cost.
+/// What is left after one more cost.
 fn left_behind(left: Option<usize>, cost: usize) -> Option<usize>
     ensures { result ≡ left_behind left cost }
 {
@@ -56,7 +56,7 @@ fn left_behind(left: Option<usize>, cost: usize) -> Option<usize>
     }
 }
 
-/// No link yet, of a cycle that is to cost that much.
+/// No link yet, of a cycle that should cost `least`.
 pub fn no_links(least: u32) -> LinksSeen
     ensures { (j : Judged) (links : List Link) → AreSeenTo j least links 0 result }
 {
@@ -67,7 +67,7 @@ pub fn no_links(least: u32) -> LinksSeen
     }
 }
 
-/// One link more, the one of this number, from 1, by what is known of it.
+/// One more link, the one with this number, counted from 1, by what is known of it.
 fn with_known(seen: LinksSeen, number: usize, known: KnownLink) -> LinksSeen
     ensures { (j : Judged) (least i : ℕ) (links : List Link) (link : Link) → IsKnownLink j link known
         → number ≡ i + 1 → i < length links → link ≡ get_or links i link
@@ -83,7 +83,7 @@ fn with_known(seen: LinksSeen, number: usize, known: KnownLink) -> LinksSeen
     }
 }
 
-/// One link more, the one of this number, from 1.
+/// One more link, the one with this number, counted from 1.
 pub fn with_link(
     seen: LinksSeen,
     graph: &LargeGraph,
@@ -108,9 +108,9 @@ fn is_used_up(left: Option<usize>) -> bool
     }
 }
 
-/// The first link, from 1, that is not right: that does not begin where the one before it ends, the first where the
-/// last ends, or is none of the history; 0 where all are, but there are none, or they cost another sum; none where the
-/// rule holds.
+/// The first link that is not right, counted from 1. A link is right if it is of the history and begins where the one
+/// before it ends, the first where the last ends. It is 0 where each is right, but there are none or they have another
+/// cost. It is none where the rule holds.
 fn broken_at(seen: LinksSeen) -> Option<usize>
     ensures { (j : Judged) (most : ℕ) (links : List Link) → AreSeenTo j most links (length links) seen → IsFirstWrongLink j most links result }
 {
@@ -140,9 +140,10 @@ pub fn seen_wrong(seen: LinksSeen) -> Result<Option<u32>, NoMemory>
     }
 }
 
-/// The first of the links, from 1, that is none of the history at the level, or does not begin where the one before it
-/// ends, the first where the last ends; 0 where all are right, but there are none, or they cost another sum; none where
-/// they are a cycle of that cost. It takes one pass, and a question of the graph for each link.
+/// The first of the links that is not right, counted from 1. A link is right if it is of the history at the level and
+/// begins where the one before it ends, the first where the last ends. It is 0 where each is right, but there are none or
+/// they have another cost. It is none where they are a cycle of that cost. It takes one pass, and a query of the graph for
+/// each link.
 pub fn first_wrong_link(
     graph: &LargeGraph,
     level: Level,
@@ -158,7 +159,7 @@ pub fn first_wrong_link(
     seen_wrong(seen)
 }
 
-/// The links of a cycle, judged one by one as they come, so that nobody has to hold them.
+/// The links of a cycle, judged one by one as they come, so that none has to be held.
 #[derive(Clone, Copy)]
 pub struct LinksJudge {
     seen: LinksSeen,
@@ -166,7 +167,7 @@ pub struct LinksJudge {
 }
 
 impl LinksJudge {
-    /// No link yet, of a cycle that is to cost that much.
+    /// No link yet, of a cycle that should cost `cost`.
     pub fn new(cost: u32) -> LinksJudge
         ensures { (j : Judged) → AreJudged j cost [] result }
     {
@@ -176,7 +177,7 @@ impl LinksJudge {
         }
     }
 
-    /// One link more.
+    /// One more link.
     pub fn judge(&mut self, graph: &LargeGraph, level: Level, link: &Link) -> Result<(), NoMemory>
         ensures { OnOk result ((most : ℕ) (links : List Link) → AreJudged (judged graph.now level) most links self.old
             → AreJudged (judged graph.now level) most (links ++ link.now ∷ []) self.new) }
@@ -185,7 +186,7 @@ impl LinksJudge {
         Ok(())
     }
 
-    /// One link more, by what is known of it.
+    /// One more link, by what is known of it.
     pub fn judge_known(&mut self, known: KnownLink) -> Result<(), NoMemory>
         ensures { OnOk result ((j : Judged) (most : ℕ) (links : List Link) (link : Link) → IsKnownLink j link known
             → AreJudged j most links self.old → AreJudged j most (links ++ link ∷ []) self.new) }
@@ -199,7 +200,7 @@ impl LinksJudge {
         Ok(())
     }
 
-    /// Whether they cost more than the cycle is to.
+    /// Whether they cost more than the cycle should.
     pub fn is_over(&self) -> bool
         ensures { (j : Judged) (most : ℕ) (links : List Link) → AreJudged j most links self.now → IsTrue result ↔ (most < cost links) }
     {

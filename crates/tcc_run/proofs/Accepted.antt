@@ -51,8 +51,8 @@ use Rattle.tcc_verdict.proofs.Owned.{owned}
 use Rattle.tcc_print.specs.Courses.{Said}
 use Rattle.tcc_print.specs.Printed.{Prints}
 use Rattle.tcc_print.specs.Statuses.{certificate_status, code_of, row_status}
-use Rattle.tcc_print.specs.declared.halt.Halt.{Halt}
-use Rattle.tcc_print.specs.declared.halt.Halt.TheVariants.{Row, Reads, Text, NoMemory}
+use Rattle.tcc_print.specs.declared.run_error.RunError.{RunError}
+use Rattle.tcc_print.specs.declared.run_error.RunError.TheVariants.{Row, Reads, Text, NoMemory}
 use Rattle.tcc_print.specs.declared.options.Options.{Options}
 use Rattle.tcc_print.specs.declared.status.Status.TheVariants as status
 use Rattle.tcc_verdict.specs.Checking.{IsOfRecords, IsOfSnapshot, IsOutcome, MayBe}
@@ -71,7 +71,7 @@ inside x y e = cc e
 apart : true ≡ false → ⊥
 apart e = cc e
 
--- a reading that failed, where it isn't for memory
+-- a reading that failed, but not for want of memory
 read_failed : (kind : CertFaultKind) → IsFailure (Unit {0}) kind → kind ≢ text_kind.NoMemory → kind ≡ text_kind.Read
 read_failed kind (inl read) other = read.0
 read_failed kind (inr memory) other = absurd (other memory)
@@ -83,23 +83,23 @@ module _ (true_small : (h : History) (k : Certificate) → Certifies h k → IsT
     (records text : List ℕ) (unfaulted : (answers_of records).fault ≡ None) (resolved : read_faults (finished records) ≡ []) (j : LargeJudgement)
     (success : large_status j ≡ status.Success) (claim : IsAcceptedClaim options (finished records) text j)
     (own : IsLargeTextCheck (finished records) text (Ok j))
-    (others : (o : Result LargeJudgement Halt) → IsLargeTextCheck (finished records) text o → IsJudgedAs j o) where
+    (others : (o : Result LargeJudgement RunError) → IsLargeTextCheck (finished records) text o → IsJudgedAs j o) where
   accepted : IsOutcome large_check records text (Ok j)
   accepted =
       subst (λ (found : Option RowFault). IsOfRecords large_check (answers_of records).items found text (Ok j)) (sym unfaulted) (inr (resolved, own))
 
-  of_snapshot : (o : Result LargeJudgement Halt) → IsOfSnapshot large_check (finished records) text o → IsJudgedAs j o
+  of_snapshot : (o : Result LargeJudgement RunError) → IsOfSnapshot large_check (finished records) text o → IsJudgedAs j o
   of_snapshot o (inl faulty) = absurd (faulty.0 resolved)
   of_snapshot o (inr checked) = others o checked.1
 
-  only : (o : Result LargeJudgement Halt) → MayBe large_check records text o → IsJudgedAs j o
+  only : (o : Result LargeJudgement RunError) → MayBe large_check records text o → IsJudgedAs j o
   only o (inl is) =
       of_snapshot o (subst (λ (found : Option RowFault). IsOfRecords large_check (answers_of records).items found text o) unfaulted is)
   only o (inr (inl failed)) = subst (IsJudgedAs j) (sym failed.2) refl
   only o (inr (inr memory)) = subst (IsJudgedAs j) (sym memory) tt
 
   module _ (before after : Option (List ℕ)) (code : ℕ) (fine : code ≢ code_of status.Device) (space : code ≢ code_of status.Memory) where
-    printed : (o : Result LargeJudgement Halt) → IsJudgedAs j o → Prints before after (large_check.text o) (large_check.status o) code
+    printed : (o : Result LargeJudgement RunError) → IsJudgedAs j o → Prints before after (large_check.text o) (large_check.status o) code
         → (code ≡ 0) × Appends before after (large_verdict_text j)
     printed o is (inr part) = absurd (fine part.1)
     printed (Ok other) is (inl whole) = (
@@ -152,7 +152,7 @@ module _ (s : Sessions) (limits : KeepsLimits s) (named : HasNames s) (level : L
   small_failed fault (inl other) kind = absurd (ok_not_err (certificate_read (certificate_text c)) c fault small_back other)
   small_failed fault (inr cut) kind = read_failed fault.kind cut.failure kind
 
-  small_others : (o : Result LargeJudgement Halt) → IsLargeTextCheck s (certificate_text c) o → IsJudgedAs small_accepted o
+  small_others : (o : Result LargeJudgement RunError) → IsLargeTextCheck s (certificate_text c) o → IsJudgedAs small_accepted o
   small_others (Ok (Small j)) (version, read, reads, claims, says) =
       let same : c ≡ read = (let both : Ok c ≡ Ok read = sym small_back ∙ reads in cc both) in
       ap (λ k. Small (record { claim = k; verdict = j.verdict })) (claims ∙ ap small.claim_of (sym same))
@@ -164,7 +164,7 @@ module _ (s : Sessions) (limits : KeepsLimits s) (named : HasNames s) (level : L
   small_others (Err (Reads faults)) is = absurd is
   small_others (Err NoMemory) is = absurd is
 
--- ---- past them
+-- ---- above them
 
 module _ (kept : (h : History) (k : LargeCertificate) → AllHold (rules_of h k) → (said : Verdict Rule) → IsVerdictOf (rules_of h k) said → said ≡ verdict.Accepted)
     (s : Sessions) (k : LargeCertificate) (room : HasLargeText k) (back : large_certificate_read (large_certificate_text k) ≡ Ok k)
@@ -180,7 +180,7 @@ module _ (kept : (h : History) (k : LargeCertificate) → AllHold (rules_of h k)
   large_failed fault (inl other) kind = absurd (ok_not_err (large_certificate_read (large_certificate_text k)) k fault back other)
   large_failed fault (inr cut) kind = read_failed fault.kind cut.failure kind
 
-  large_others : (o : Result LargeJudgement Halt) → IsLargeTextCheck s (large_certificate_text k) o → IsJudgedAs large_accepted o
+  large_others : (o : Result LargeJudgement RunError) → IsLargeTextCheck s (large_certificate_text k) o → IsJudgedAs large_accepted o
   large_others (Ok (Small j)) is = absurd (apart (sym (claim_version k) ∙ is.0))
   large_others (Ok (Large said v)) (version, read, reads, claims, says) =
       let same : k ≡ read = (let both : Ok k ≡ Ok read = sym back ∙ reads in cc both) in
@@ -227,7 +227,7 @@ module _ (laws : Laws) (options : Options) (records : List ℕ) (unfaulted : (an
       (large_accepted laws.kept s claim room (laws.back claim room) keeps_all) refl (past, claim, said, is, refl, refl, refl)
       (large_own laws.kept s claim room (laws.back claim room) keeps_all) (large_others laws.kept s claim room (laws.back claim room) keeps_all)
 
-  -- the certificate of what was said of all that was finished
+  -- the certificate of what was said about all that was finished
   pub said_accepted : (said : Said) (text : List ℕ) → said.certificate ≡ Some text → IsResolvedAs options (finished records) said
       → IsAcceptedWith options records text
   said_accepted said text has (inl (within, a, is, same)) =

@@ -1,4 +1,4 @@
--- A first answer without tables says what it says with those that its history gives.
+-- A first answer without tables says the same as with the tables that its history gives.
 use Rattle.std.proofs.Common.{ℕ, ◌≡◌, Bool, List, refl}
 use Rattle.tcc_reads.specs.History.{History}
 use Rattle.tcc_graph.specs.Levels.{judged}
@@ -16,7 +16,7 @@ use Rattle.tcc_print.specs.Printed.{answered}
 use Rattle.tcc_print.specs.Statuses.{answer_status}
 use Rattle.tcc_print.specs.declared.options.Options.{Options}
 use Rattle.tcc_run.specs.LargeRuns.{bare_cycle, bare_order}
-use Rattle.tcc_run.specs.declared.outcome.Outcome.TheVariants as outcome
+use Rattle.tcc_run.specs.declared.outcome.ExplainOutcome.TheVariants as outcome
 use Rattle.tcc_run.specs.private.Stages.{outcome_said}
 
 -- ---- what is said

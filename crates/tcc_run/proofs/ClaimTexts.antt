@@ -1,4 +1,4 @@
--- Version 3 of the text has room for what is claimed of a first answer.
+-- Version 3 of the text has room for what a first answer claims.
 use Rattle.std.proofs.Common.{◌≡◌, ◌≢◌, ◌<◌, ◌≤◌, ◌+◌, ◌⊎◌, inl, inr, ℕ, List, [], ◌∷◌, length, Option, None, Some, refl, sym, ap, subst, arith, rules}
 use Rattle.std.proofs.lemmas.Bool.{cases_eq}
 use Rattle.tcc_reads.specs.History.{History, count}
@@ -32,7 +32,7 @@ begins h level (n ∷ rest) some commit = (rest, ap (λ m. m ∷ rest) (sym (zer
         let first : j ≡ 0 = one_index commit.numbering j 0 within (omega arith) at_n in
         absurd (omega (arith, first, less))
 
--- so what is claimed of it has a text
+-- so its claim has a text
 pub order_room : (h : History) (level : Level) (order : List ℕ) → 0 < count h
     → ((rest : List ℕ) → 1 + length rest ≡ count h → HasRunsClaimText (order_claim_of level h (0 ∷ rest)))
     → IsCommitOrder (judged h level) order → HasRunsClaimText (order_claim_of level h order)
@@ -41,7 +41,7 @@ order_room h level order some text commit =
     let long : 1 + length rest ≡ count h = omega (arith, ap length is, numbering_long (count h) order commit.numbering) in
     subst (λ (all : List ℕ). HasRunsClaimText (order_claim_of level h all)) is (text rest long)
 
--- of no runs there is a text
+-- the text of no runs
 no_runs : HaveRunsText []
 no_runs = record { many = omega arith; each = search rules }
 
@@ -51,7 +51,7 @@ module _ (level : Level) (h : History) (links : List Link) (k : LinksClaim)
   pub short_claimed : cost links ≤ 4 → k ≡ links_claim_of level h links (Some []) → IsCycleClaim level h links k
   short_claimed few same = ((Some [], inl (few, refl), same), subst HasLinksClaimText (sym same) (room (Some []) no_runs))
 
-  -- past them the judge takes the runs; or nothing is claimed of the least cost
+  -- above that the judge accepts the runs; or nothing is claimed about the least cost
   pub long_claimed : 4 < cost links → IsLongClaim level h links k → IsCycleClaim level h links k
   long_claimed long (inl same) = ((None, long, same), subst HasLinksClaimText (sym same) (room None tt))
   long_claimed long (inr (runs, same, short, keeps)) = (

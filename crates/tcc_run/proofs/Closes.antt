@@ -1,4 +1,4 @@
--- What a run puts into the file for the certificate of its last answer is the certificate of the answer for all that the records finish.
+-- What a run writes to the file for the certificate of its last answer is the certificate of the answer for all that the records finish.
 use Rattle.std.proofs.Common.{ℕ, ◌≡◌, ◌≢◌, List, [], Option, None, Some, Result, refl, sym, ap, subst, ◌∙◌, inl, inr, ◌⊎◌}
 use Rattle.std.specs.Prelude.{unwrap_or}
 use Rattle.std.specs.List.{last_or}
@@ -10,7 +10,7 @@ use Rattle.tcc_cert.specs.Texts.{certificate_text}
 use Rattle.tcc_cert.specs.declared.certificate.Certificate.{Certificate}
 use Rattle.tcc_answer.specs.Claims.{certificate_of}
 use Rattle.tcc_rules.specs.declared.judgement.Judgement.{Judgement}
-use Rattle.tcc_print.specs.declared.halt.Halt.{Halt}
+use Rattle.tcc_print.specs.declared.run_error.RunError.{RunError}
 use Rattle.tcc_print.specs.declared.options.Options.{Options}
 use Rattle.tcc_verdict.specs.Checks.{IsCheck, MayBeCheck}
 use Rattle.tcc_run.specs.Closing.{IsAcceptance, acceptance}
@@ -24,7 +24,7 @@ use Rattle.tcc_print.proofs.LastSaid.{certified_last, device_code}
 
 -- the check of these records accepts the text as that of the certificate, unless a reader fails or memory is refused
 abbrev Accepts : List ℕ → List ℕ → Type 0
-Accepts records text = (c : Certificate) × IsCheck records text (acceptance c) × ((o : Result Judgement Halt) → MayBeCheck records text o → IsAcceptance c o)
+Accepts records text = (c : Certificate) × IsCheck records text (acceptance c) × ((o : Result Judgement RunError) → MayBeCheck records text o → IsAcceptance c o)
 
 inside : {X : Type 0} (x y : X) → Some x ≡ Some y → x ≡ y
 inside x y e = cc e
@@ -47,7 +47,7 @@ module _ (options : Options) (records text : List ℕ) (limits : KeepsLimits (fi
   closes ends =
       let all = certified_last Small (IsSaidOfSnapshot options) options records said last end ends text has in of_answer all.0 all.1
 
--- what stands in a file that was empty is the certificate of the last, where no device failed
+-- what is in a file that was empty is the certificate of the last answer, where no device failed
 pub left : (options : Options) (records text : List ℕ) → KeepsLimits (finished_in (answers_of records).items) → (before after : Option (List ℕ)) (code : ℕ)
     → IsExplainRun options records before after (Some (Some [])) (Some (Some text)) code → text ≢ [] → code ≢ code_of Device → Accepts records text
 left options records text limits before after code (said, last, ends, end, inl (out, gains, is)) some fine = go last.certificate refl

@@ -32,12 +32,12 @@ use Rattle.tcc_explain.proofs.RecordedKeys.{recorded}
 use Rattle.tcc_explain.proofs.WrittenAnswer.{read_back}
 use Rattle.tcc_rules.specs.declared.judgement.Judgement.{Judgement}
 use Rattle.tcc_graph.specs.Levels.{judged}
-use Rattle.tcc_print.specs.declared.halt.Halt.{Halt}
-use Rattle.tcc_print.specs.declared.halt.Halt.TheVariants.{Row, Reads, Text, NoMemory}
+use Rattle.tcc_print.specs.declared.run_error.RunError.{RunError}
+use Rattle.tcc_print.specs.declared.run_error.RunError.TheVariants.{Row, Reads, Text, NoMemory}
 use Rattle.tcc_verdict.specs.Checks.{IsCheck, IsRecordsCheck, IsSnapshotCheck, IsTextCheck, MayBeCheck}
 use Rattle.tcc_run.specs.Closing.{IsAcceptance, acceptance}
 
--- what all items finish keeps the limits, since what their first ones finish does, however many
+-- what all items finish keeps the limits, since what the first n of them finish does, for every n
 pub of_all : ((text : List ℕ) (n : ℕ) → KeepsLimits (finished_in (take n (answers_of text).items))) → (records : List ℕ)
     → KeepsLimits (finished_in (answers_of records).items)
 of_all law records = subst (λ items. KeepsLimits (finished_in items)) (take-length (answers_of records).items) (law records (length (answers_of records).items))
@@ -83,7 +83,7 @@ module _ (records : List ℕ) (limits : KeepsLimits (all_of records)) (level : L
       go (inl read) = read.0
       go (inr memory) = absurd (kind memory)
 
-  of_text : (o : Result Judgement Halt) → IsTextCheck (history (all_of records)) (certificate_text c) o → IsAcceptance c o
+  of_text : (o : Result Judgement RunError) → IsTextCheck (history (all_of records)) (certificate_text c) o → IsAcceptance c o
   of_text (Ok judged) (read, reads, claims, says) =
       let same : c ≡ read = (let both : Ok c ≡ Ok read = sym back ∙ reads in cc both) in
       (claims ∙ ap claim_of (sym same), by_verdict read judged.verdict same says)
@@ -92,12 +92,12 @@ module _ (records : List ℕ) (limits : KeepsLimits (all_of records)) (level : L
   of_text (Err (Text fault)) is = failed_reading fault is.0 is.1
   of_text (Err NoMemory) is = absurd is
 
-  of_snapshot : (o : Result Judgement Halt) → IsSnapshotCheck (all_of records) (certificate_text c) o → IsAcceptance c o
+  of_snapshot : (o : Result Judgement RunError) → IsSnapshotCheck (all_of records) (certificate_text c) o → IsAcceptance c o
   of_snapshot o (inl faulty) = absurd (faulty.0 resolved)
   of_snapshot o (inr checked) = of_text o checked.1
 
-  -- and nothing else comes of it, unless a reader fails or memory is refused
-  pub only : (o : Result Judgement Halt) → MayBeCheck records (certificate_text c) o → IsAcceptance c o
+  -- and the check has no other result, unless a reader fails or memory is refused
+  pub only : (o : Result Judgement RunError) → MayBeCheck records (certificate_text c) o → IsAcceptance c o
   only o (inl check) = of_snapshot o (subst (λ found. IsRecordsCheck (answers_of records).items found (certificate_text c) o) unfaulted check)
   only o (inr (inl failed)) = subst (IsAcceptance c) (sym failed.2) refl
   only o (inr (inr memory)) = subst (IsAcceptance c) (sym memory) tt

@@ -1,4 +1,4 @@
--- What goes into the files behind the last answer.
+-- What is written to the files after the last answer.
 use Rattle.std.proofs.Common.{◌≡◌, ℕ, List, Option, None, Some, Result, Ok, Err, refl, sym, subst, take, ◌∙◌, inl, inr}
 use Rattle.std.specs.Prelude.{IsErrAnd, OnErr, OnOk}
 use Rattle.std.specs.Io.KnownBytes.{Appends}
@@ -12,7 +12,7 @@ use Rattle.tcc_print.specs.declared.status.Status.TheVariants.{Device}
 use Rattle.tcc_print.proofs.Courses.{Gains-none}
 use Rattle.tcc_run.specs.LargeRuns.{CertificateStops, Files, IsSliced, IsUnsliced, SliceStops, Stops}
 use Rattle.tcc_run.specs.private.LargeStages.{IsOutcome, SendsCertificate, SendsSlice, WritesCertificate, WritesFiles, WritesSlice, outcome_links, outcome_said}
-use Rattle.tcc_run.specs.declared.large.outcome.Outcome.{Outcome}
+use Rattle.tcc_run.specs.declared.large.outcome.LargeOutcome.{LargeOutcome}
 use Rattle.tcc_run.proofs.Outcomes.{has_said, said_anomalous, unsaid}
 
 nothing : {A : Type 0} (x : A) → Some x ≡ None → ⊥
@@ -31,7 +31,7 @@ pub certificate_stops : (options : Options) (last : Said) (before after file fil
 certificate_stops options last before after file file' code (text, is, (n, part)) prints = (text, is, (n, part, nothing file), prints)
 
 -- the slice of what was said
-pub slice_given : {A : Type 0} (options : Options) (whole : Sessions) (o : Outcome) (links : List Link) (r : Result A ℕ) (before after file file' : Option (List ℕ))
+pub slice_given : {A : Type 0} (options : Options) (whole : Sessions) (o : LargeOutcome) (links : List Link) (r : Result A ℕ) (before after file file' : Option (List ℕ))
     → IsOutcome options.level whole o → outcome_links o ≡ Some links → SendsSlice options whole links r before after file file'
     → WritesSlice options whole (outcome_said options o) r before after (Some file) (Some file')
 slice_given options whole o links (Ok done) before after file file' is has (quiet, inl (slice, cut, out)) =
@@ -43,13 +43,13 @@ slice_given options whole o links (Err code) before after file file' is has (inl
 slice_given options whole o links (Err code) before after file file' is has (inr (none, prints)) =
     inr (said_anomalous options (history whole) (outcome_said options o) links (has_said options whole o links is has), none, prints)
 
--- there is no slice, and nothing goes into the file
+-- there is no slice, and nothing is written to the file
 pub unsliced : (options : Options) (whole : Sessions) (last : Said) (file : Contents) → IsUnsliced options whole last → IsSliced options whole last file file
 unsliced options whole last None is = refl
 unsliced options whole last (Some file) is = inr (is, Gains-none (Some file))
 
 -- what was said is no anomaly
-pub slice_none : (options : Options) (whole : Sessions) (o : Outcome) (before : Option (List ℕ)) (file : Contents) → outcome_links o ≡ None
+pub slice_none : (options : Options) (whole : Sessions) (o : LargeOutcome) (before : Option (List ℕ)) (file : Contents) → outcome_links o ≡ None
     → WritesSlice {A = Unit {0}} options whole (outcome_said options o) (Ok tt) before before file file
 slice_none options whole o before file none = (refl, unsliced options whole (outcome_said options o) file (inr (inl (unsaid options o none))))
 
@@ -62,7 +62,7 @@ both_files options whole last (Ok done) before now after first first' second sec
 both_files options whole last (Err code) before now after first first' second second' (quiet, gains) stops =
     inr (gains, subst (λ (b : Option (List ℕ)). SliceStops options whole last b after second second' code) quiet stops)
 
--- a run that stops at a file ends by the number of the call that stopped there
+-- a run that stops at a file ends with the exit code of the call that stopped there
 pub files_stop : {A : Type 0} (options : Options) (whole : Sessions) (last : Said) (r : Result A ℕ) (why : ℕ) (before after : Option (List ℕ)) (files files' : Files)
     → IsErrAnd r (λ code. code ≡ why) → Stops options whole last before after files files' why → WritesFiles options whole last r before after files files'
 files_stop options whole last (Ok a) why before after files files' is stops = absurd is

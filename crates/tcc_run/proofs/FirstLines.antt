@@ -1,4 +1,4 @@
--- The first line of a certificate's text says its version.
+-- The first line of a certificate's text has its version.
 use Rattle.std.proofs.Common.{◌≡◌, ◌≤◌, ◌∷◌, ◌++◌, ℕ, Ok, true, false, List, length, refl, ap, lit≤}
 use Rattle.std.specs.Prelude.{codes}
 use Rattle.tcc_graph.specs.declared.level.Level.{Level}
@@ -26,12 +26,12 @@ three_named : (level : Level) (lines : List Words) → is_large (lines_text (lar
 three_named Causal lines = read_first (codes "tcc-certificate 3 causal") (lines_text lines) refl (lit≤ tt)
 three_named Atomic lines = read_first (codes "tcc-certificate 3 atomic") (lines_text lines) refl (lit≤ tt)
 
--- that of an answer within the small limits says version 2
+-- the first line for an answer within the small limits has version 2
 pub answer_version : (a : Answer) → is_large (certificate_text (certificate_of a)) ≡ false
 answer_version (answer.Commit c) = two_named c.level (claim_lines (certificate_of (answer.Commit c)))
 answer_version (answer.Anomaly c) = two_named c.level (claim_lines (certificate_of (answer.Anomaly c)))
 
--- that of a claim past them version 3
+-- that for a claim above them has version 3
 pub claim_version : (k : LargeCertificate) → is_large (large_certificate_text k) ≡ true
 claim_version (claim.Order k) = three_named k.level (large_claim_lines (claim.Order k))
 claim_version (claim.Cycle k) = three_named k.level (large_claim_lines (claim.Cycle k))

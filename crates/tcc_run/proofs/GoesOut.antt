@@ -1,4 +1,4 @@
--- A run that ends neither by a device that failed nor out of memory puts out all that it says.
+-- A run that ends neither by a device that failed nor out of memory prints all that it says.
 use Rattle.std.proofs.Common.{ℕ, ◌≡◌, ◌≢◌, List, Option, inl, inr, ◌⊎◌}
 use Rattle.tcc_txn.specs.declared.limits.Limits.TheVariants.{Large}
 use Rattle.tcc_print.specs.Courses.{IsCourse, Said}

@@ -23,7 +23,7 @@ use Rattle.tcc_run.proofs.Closing.{accepted, only}
 use Rattle.tcc_print.proofs.LastSaid.{device_code, last_of_all, texts_end}
 
 module _ (law : (s : Sessions) (level : Level) (a : Answer) → IsAnswerOfSnapshot s level a → IsExplained s level a) (options : Options) where
-  -- what is said of a snapshot is what the main theorem says
+  -- what is said about a snapshot is what the main theorem says
   pub says : (s : Sessions) (said : Said) → IsSaidOfSnapshot options s said → SaysExplained options s said
   says s said (inl (resolved, a, is, same)) = inl (a, law s options.level a (resolved, is), same)
   says s said (inr faults) = inr faults

@@ -1,4 +1,4 @@
--- Two inputs that finish the same before each seal, and in the end, are answered alike.
+-- Two inputs that finish the same before each seal, and in the end, get the same answers.
 use Rattle.std.proofs.Common.{◌≡◌, ℕ, zero, suc, inl, inr, Bool, false, true, List, [], ◌∷◌, ◌++◌, length, None, refl, sym, ap, subst, ◌∙◌, arith}
 use Rattle.std.proofs.Common.{append_assoc, append-nil}
 use Rattle.std.specs.Prelude.{fold, if◌then◌else◌}
@@ -14,8 +14,8 @@ use Rattle.tcc_rows.specs.declared.rows.Item.TheVariants as item
 use Rattle.tcc_print.specs.declared.options.Options.{Options}
 use Rattle.tcc_print.specs.Courses.{AreSaid, Said}
 use Rattle.tcc_run.specs.Runs.{IsSaidOfSnapshot, IsWholeRun}
-use Rattle.tcc_print.specs.Moments.{at_end, is_due_after, sealed_after, sealed_in}
-use Rattle.tcc_print.proofs.Moments.{Passed, passed-from}
+use Rattle.tcc_print.specs.Checkpoints.{at_end, is_due_after, sealed_after, sealed_in}
+use Rattle.tcc_print.proofs.Checkpoints.{Passed, passed-from}
 
 -- ---- the items before a seal
 
@@ -33,7 +33,7 @@ until-end : (items : List Item) (k : ℕ) → items_until (item.End ∷ items) k
 until-end items zero = refl
 until-end items (suc k) = refl
 
--- before a seal that there isn't stand all items
+-- where there are no more seals, all items come before
 until-all : (items : List Item) → items_until items (length (seals_in items)) ≡ items
 until-all [] = refl
 until-all (item.Finished session txn ∷ items) =
@@ -91,7 +91,7 @@ sealed-until before (item.End ∷ items) =
 
 -- ---- whether an answer is due at the end
 
--- since the last seal something was finished, and an answer is due; or nothing was
+-- something was finished since the last seal, and an answer is due; or nothing was
 due-since : (due : Bool) (s : Sessions) (items : List Item) (first : Item) (seals : List Item) → seals_in items ≡ first ∷ seals
     → Passed false (is_due_after due items) (fold with_item s (items_until items (length seals))) (fold with_item s items)
 due-since due s [] first seals is = cc
@@ -171,7 +171,7 @@ module _ (items others : List Item) (seals : seals_in items ≡ seals_in others)
   pub answered-alike : sealed_in items ++ at_end items ≡ sealed_in others ++ at_end others
   answered-alike = ap (λ sealed. sealed ++ at_end items) sealed-alike ∙ ap (λ ended. sealed_in others ++ ended) ended-alike
 
--- so what a whole run says of one of them, it says of the other, if that has no fault
+-- so what a whole run says for one of them, it says for the other, if that has no fault
 pub whole-alike : (options : Options) (all more : rows.Answers) (said : List Said)
     → sealed_in all.items ++ at_end all.items ≡ sealed_in more.items ++ at_end more.items
     → more.fault ≡ None → IsWholeRun options all said → IsWholeRun options more said

@@ -1,4 +1,4 @@
--- What a run of explain --large puts into the file for the certificate is accepted by the check of the same records.
+-- What a run of explain --large writes to the file for the certificate is accepted by the check of the same records.
 use Rattle.std.proofs.Common.{ℕ, ◌≡◌, ◌≢◌, List, [], Option, None, Some, refl, sym, ap, subst, ◌∙◌, inl, inr, ◌⊎◌}
 use Rattle.std.specs.Prelude.{unwrap_or}
 use Rattle.std.specs.Io.KnownBytes.{Appends}

@@ -4,19 +4,19 @@ use Rattle.std.specs.Prelude.{unwrap_or}
 use Rattle.std.specs.Io.KnownBytes.{Appends}
 use Rattle.tcc_txn.specs.Snapshots.{Sessions}
 use Rattle.tcc_print.specs.Courses.{Gains, texts}
-use Rattle.tcc_print.specs.declared.last.Last.{Last}
+use Rattle.tcc_print.specs.declared.previous.PreviousAnswer.{PreviousAnswer}
 use Rattle.tcc_print.specs.declared.options.Options.{Options}
 use Rattle.tcc_print.specs.Saying.{IsTold}
 use Rattle.tcc_print.specs.private.Courses.{AllAnswered, EndsEarly}
 use Rattle.tcc_print.proofs.Courses.{Gains-none}
 use Rattle.tcc_run.specs.LargeRuns.{Files, IsLargeRun, finished}
-use Rattle.tcc_run.specs.declared.large.outcome.Outcome.{Outcome}
+use Rattle.tcc_run.specs.declared.large.outcome.LargeOutcome.{LargeOutcome}
 use Rattle.tcc_run.specs.private.LargeStages.{Concludes, IsOutcome, course, outcome_said}
 use Rattle.tcc_run.proofs.Files.{unsliced}
 use Rattle.tcc_run.proofs.Outcomes.{said_of}
 
--- what is to be said of a snapshot is told of it
-pub told : (options : Options) (s : Sessions) (o : Outcome) → IsOutcome options.level s o → IsTold (course options) s o
+-- what is to be said about a snapshot is reported for it
+pub told : (options : Options) (s : Sessions) (o : LargeOutcome) → IsOutcome options.level s o → IsTold (course options) s o
 told options s o is = (said_of options s o is, is)
 
 -- a run that ends early has nothing for the files
@@ -37,8 +37,8 @@ early options text before after files code (said, last, is, ends, inl whole) = (
 early options text before after files code (said, last, is, ends, inr cuts) =
     (said, last, is, ends, inr (inl ((cuts, Gains-none files.certificate), Gains-none files.slice)))
 
--- one that has answered all ends with the files of what was said last
-concluded_all : (options : Options) (text : List ℕ) (before now after : Option (List ℕ)) (files files' : Files) (last : Last Outcome) (code : ℕ)
+-- a run that has answered all ends with the files of what was said last
+concluded_all : (options : Options) (text : List ℕ) (before now after : Option (List ℕ)) (files files' : Files) (last : PreviousAnswer LargeOutcome) (code : ℕ)
     → AllAnswered (course options) text before now last
     → Concludes options (finished text) (outcome_said options last.outcome) now after files files' code
     → IsLargeRun options text before after files files' code
@@ -53,11 +53,11 @@ concluded_all options text before now after files files' last code (said, is, en
     (said, outcome_said options last.outcome, inl is, ends, inr (inr (now, out, stops)))
 
 -- the outcome that is kept is one of all that was finished
-last_known : (options : Options) (text : List ℕ) (before now : Option (List ℕ)) (last : Last Outcome) → AllAnswered (course options) text before now last
+last_known : (options : Options) (text : List ℕ) (before now : Option (List ℕ)) (last : PreviousAnswer LargeOutcome) → AllAnswered (course options) text before now last
     → IsOutcome options.level (finished text) last.outcome
 last_known options text before now last (said, is, ends, known, out) = known
 
-pub concluded : (options : Options) (text : List ℕ) (s : Sessions) (before now after : Option (List ℕ)) (files files' : Files) (last : Last Outcome) (code : ℕ)
+pub concluded : (options : Options) (text : List ℕ) (s : Sessions) (before now after : Option (List ℕ)) (files files' : Files) (last : PreviousAnswer LargeOutcome) (code : ℕ)
     → s ≡ finished text → AllAnswered (course options) text before now last
     → (IsOutcome options.level s last.outcome → Concludes options s (outcome_said options last.outcome) now after files files' code)
     → IsLargeRun options text before after files files' code

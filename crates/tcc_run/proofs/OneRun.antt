@@ -13,11 +13,11 @@ use Rattle.tcc_graph.specs.Levels.{Judged, judged}
 use Rattle.tcc_answer.specs.declared.answer.Answer.{Answer}
 use Rattle.tcc_explain.specs.Explained.{IsAnswerOfHistory}
 use Rattle.tcc_print.specs.declared.options.Options.{Options}
-use Rattle.tcc_print.specs.declared.halt.Halt.TheVariants as halt
-use Rattle.tcc_print.specs.Courses.{Said, answer_said, halt_said}
+use Rattle.tcc_print.specs.declared.run_error.RunError.TheVariants as error
+use Rattle.tcc_print.specs.Courses.{Said, answer_said, run_error_said}
 use Rattle.tcc_run.specs.Runs.{AreAnswersOfRun, AreFront, AskAlike, IsSaidOfSnapshot, IsStopped, IsWholeRun}
-use Rattle.tcc_print.specs.Moments.{at_end}
-use Rattle.tcc_print.specs.Moments.{sealed_after, sealed_in}
+use Rattle.tcc_print.specs.Checkpoints.{at_end}
+use Rattle.tcc_print.specs.Checkpoints.{sealed_after, sealed_in}
 
 -- the snapshots at the seals among the first items are the first of those at all seals
 sealed-front : (before items : List Item) (n : ℕ)
@@ -61,7 +61,7 @@ module _ (one : (j : Judged) (some other : Answer) → IsAnswerOfHistory j some 
       let rest : xs ≡ ys = all_again snapshots xs ys are.1 too.1 in
       ap (λ z. z ∷ xs) first ∙ ap (λ zs. y ∷ zs) rest
 
-  -- of two beginnings of one list of snapshots the answers of the one are the first of the other's
+  -- where two lists of snapshots begin one list, the answers for one of them are the first of those for the other
   fronts : (P Q r q : List Sessions) (xs ys : List Said) → P ++ r ≡ Q ++ q → AllZip (IsSaidOfSnapshot options) P xs → AllZip (IsSaidOfSnapshot others) Q ys
       → AreFront xs ys ⊎ AreFront ys xs
   fronts [] Q r q [] ys same are too = inl (ys, refl)
@@ -79,7 +79,7 @@ module _ (one : (j : Judged) (some other : Answer) → IsAnswerOfHistory j some 
         | inr more ↦ inr (more.0, ap (λ z. z ∷ xs) first ∙ ap (λ zs. y ∷ zs) more.1)
       ]
 
-  -- whose answers a run gave, as a beginning of all snapshots
+  -- the answers that a run gave are those for the first of all snapshots
   record IsFront (asked : Options) (snapshots : List Sessions) (answers : List Said) : Type 0 where
     some : List Sessions
     rest : List Sessions
@@ -114,8 +114,8 @@ module _ (one : (j : Judged) (some other : Answer) → IsAnswerOfHistory j some 
   stopped_again all said again (fault, xs, has, are, is) (other, ys, too, answered, same) =
       let alike_fault : fault ≡ other = inside fault other (sym has ∙ too) in
       let answers : xs ≡ ys = all_again (sealed_in all.items) xs ys are.0 answered.0 in
-      is ∙ ap (λ zs. zs ++ halt_said options (halt.Row fault) ∷ []) answers
-      ∙ ap (λ (u : RowFault). ys ++ halt_said options (halt.Row u) ∷ []) alike_fault
+      is ∙ ap (λ zs. zs ++ run_error_said options (error.Row fault) ∷ []) answers
+      ∙ ap (λ (u : RowFault). ys ++ run_error_said options (error.Row u) ∷ []) alike_fault
       ∙ rw alike.form refl ∙ sym same
 
   pub whole_again : (all more : rows.Answers) (xs ys : List Said) → sealed_in all.items ++ at_end all.items ≡ sealed_in more.items ++ at_end more.items

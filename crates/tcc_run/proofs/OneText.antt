@@ -1,4 +1,4 @@
--- What is said of a snapshot of any size is one text, by the laws on first answers.
+-- What is said about a snapshot of any size is one text, by the laws on first answers.
 use Rattle.std.proofs.Common.{ℕ, ◌≡◌, List, [], ◌∷◌, ◌++◌, refl, sym, ap, subst, ◌∙◌, inl, inr}
 use Rattle.std.specs.List.{AllZip}
 use Rattle.tcc_txn.specs.Snapshots.{Sessions}

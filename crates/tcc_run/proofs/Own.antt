@@ -1,4 +1,4 @@
--- What is claimed of a first answer keeps all rules, where one's own orders and cycles do.
+-- What a first answer claims keeps all rules, where one's own orders and cycles do.
 use Rattle.std.proofs.Common.{◌≡◌, ◌≤◌, ℕ, List, Option, None, Some, inl, inr, sym, ap, subst}
 use Rattle.tcc_reads.specs.History.{History}
 use Rattle.tcc_graph.specs.Answers as first

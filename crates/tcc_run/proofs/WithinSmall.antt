@@ -1,4 +1,4 @@
--- What a run of explain --large says of records that the small limits take is what a run without it says.
+-- What a run of explain --large says about records within the small limits is what a run without it says.
 use Rattle.std.proofs.Common.{ℕ, ◌≡◌, ◌≢◌, ◌⊎◌, ◌↔◌, Bool, true, false, cond, List, [], ◌∷◌, ◌++◌, None, Option}
 use Rattle.std.proofs.Common.{length, take, drop, refl, sym, ap, subst, ◌∙◌, inl, inr, append_assoc, append-nil}
 use Rattle.std.specs.List.{AllZip}
@@ -14,10 +14,10 @@ use Rattle.tcc_rows.specs.declared.rows.Item.{Item}
 use Rattle.tcc_rows.specs.declared.rows.Item.TheVariants as item
 use Rattle.tcc_rows.proofs.BothLimits.{fails-large, fails-small, same-before, same-kept}
 use Rattle.tcc_print.specs.Courses.{AreSaid, Contents, IsEndedCourse, IsWholeCourse, MayEnd, Said}
-use Rattle.tcc_print.specs.Moments.{at_end, is_due_after, sealed_after, sealed_in}
+use Rattle.tcc_print.specs.Checkpoints.{at_end, is_due_after, sealed_after, sealed_in}
 use Rattle.tcc_print.specs.Statuses.{code_of}
-use Rattle.tcc_print.specs.declared.halt.Halt.{Halt}
-use Rattle.tcc_print.specs.declared.halt.Halt.TheVariants as halt
+use Rattle.tcc_print.specs.declared.run_error.RunError.{RunError}
+use Rattle.tcc_print.specs.declared.run_error.RunError.TheVariants as error
 use Rattle.tcc_print.specs.declared.options.Options.{Options}
 use Rattle.tcc_print.specs.declared.status.Status.TheVariants.{Device, Memory}
 use Rattle.tcc_run.specs.Runs as small
@@ -121,24 +121,24 @@ module _ (law : (text : List ℕ) (n : ℕ) → KeepsLimits (finished_in (take n
   whole_alike said = (whole_small said, whole_large said)
 
   -- what was said before the run was ended
-  may_small : (n : ℕ) (why : Halt) → MayEnd Large records n why → MayEnd Small records n why
-  may_small n (halt.Row fault) (inl (found, at)) =
+  may_small : (n : ℕ) (why : RunError) → MayEnd Large records n why → MayEnd Small records n why
+  may_small n (error.Row fault) (inl (found, at)) =
       inl (ap (λ (a : rows.Answers). a.fault) (sym same) ∙ found, at ∙ ap (λ (a : rows.Answers). length a.items) same)
-  may_small n (halt.Row fault) (inr (read, fails, count)) =
+  may_small n (error.Row fault) (inr (read, fails, count)) =
       let here = fails-small records keeps fault.row fails in
       inr (read, here, count ∙ ap length (same-before records keeps fault.row here))
-  may_small n halt.NoMemory may = tt
-  may_small n (halt.Reads faults) may = absurd may
-  may_small n (halt.Text fault) may = absurd may
+  may_small n error.NoMemory may = tt
+  may_small n (error.Reads faults) may = absurd may
+  may_small n (error.Text fault) may = absurd may
 
-  may_large : (n : ℕ) (why : Halt) → MayEnd Small records n why → MayEnd Large records n why
-  may_large n (halt.Row fault) (inl (found, at)) =
+  may_large : (n : ℕ) (why : RunError) → MayEnd Small records n why → MayEnd Large records n why
+  may_large n (error.Row fault) (inl (found, at)) =
       inl (ap (λ (a : rows.Answers). a.fault) same ∙ found, at ∙ ap (λ (a : rows.Answers). length a.items) (sym same))
-  may_large n (halt.Row fault) (inr (read, fails, count)) =
+  may_large n (error.Row fault) (inr (read, fails, count)) =
       inr (read, fails-large records keeps fault.row fails, count ∙ ap length (sym (same-before records keeps fault.row fails)))
-  may_large n halt.NoMemory may = tt
-  may_large n (halt.Reads faults) may = absurd may
-  may_large n (halt.Text fault) may = absurd may
+  may_large n error.NoMemory may = tt
+  may_large n (error.Reads faults) may = absurd may
+  may_large n (error.Text fault) may = absurd may
 
   ended_small : (said : List Said) → IsEndedCourse Large (large.IsSaidWithLarge options) options records said
       → IsEndedCourse Small (small.IsSaidOfSnapshot options) options records said
@@ -173,7 +173,7 @@ module _ (law : (text : List ℕ) (n : ℕ) → KeepsLimits (finished_in (take n
       ↔ small.IsEndedRun options records said
   ended_alike said = (ended_small said, ended_large said)
 
-  -- ---- what goes out
+  -- ---- what is written
 
   ends_small : (said : List Said)
       → IsWholeCourse (large.IsSaidWithLarge options) (large.answers_of records) said ⊎ IsEndedCourse Large (large.IsSaidWithLarge options) options records said

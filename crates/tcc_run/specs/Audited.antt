@@ -1,4 +1,4 @@
--- What is answered for a book.
+-- The answer for a book.
 use Rattle.std.specs.Prelude.{◌≡◌, List, Result, Ok, Err}
 use Rattle.tcc_book.specs.Passes.{Passed, IsWhole, recorded_by}
 use Rattle.tcc_graph.specs.declared.level.Level.{Level}

@@ -14,14 +14,14 @@ use Rattle.tcc_graph.specs.Levels.{judged}
 use Rattle.tcc_print.specs.Courses.{Contents, Gains, Said, answer_said, faults_said}
 use Rattle.tcc_print.specs.Printed.{answered}
 use Rattle.tcc_print.specs.Statuses.{answer_status, code_of}
-use Rattle.tcc_print.specs.declared.halt.Halt.{Halt}
+use Rattle.tcc_print.specs.declared.run_error.RunError.{RunError}
 use Rattle.tcc_print.specs.declared.options.Options.{Options}
 use Rattle.tcc_reads.specs.Sources.{history}
 use Rattle.tcc_verdict.specs.Checks.{IsCheck, MayBeCheck}
 use Rattle.tcc_run.specs.Closing.{IsAcceptance, acceptance}
 use Rattle.tcc_run.specs.Headline.{IsExplained}
 
--- what is said of a snapshot: an answer of which the main theorem holds, or all its read faults
+-- what is said about a snapshot: an answer for which the main theorem holds, or all its read faults
 abbrev pub SaysExplained : Options → Sessions → Said → Type 0
 SaysExplained options s said =
     ((a : Answer) × IsExplained s options.level a × (said ≡ answer_said options a))
@@ -31,20 +31,20 @@ SaysExplained options s said =
 abbrev pub finished_by : List ℕ → Sessions
 finished_by records = finished_in (rows.answers_of records).items
 
--- what a run put behind the output and into the file for the certificate, if one is given, and the number that it ended with
+-- what a run wrote after the output so far and to the file for the certificate, if one is given, and its exit code
 pub record PrintsExplained (options : Options) (records : List ℕ) (before : Option (List ℕ)) (after : Option (List ℕ)) (file : Contents) (file' : Contents)
     (code : ℕ) : Type 0 where
-  -- the answer that was printed last is one for all that the records finish: a commit order that satisfies the axiom of the
-  -- level, or a cycle such that no other has fewer steps, and the checker accepts its certificate; and it is the first answer
+  -- the answer that was printed last is one for all that the records finish. It is a commit order that satisfies the axiom of the level, or
+  -- a cycle such that no other has fewer steps, and the checker accepts its certificate. It is the first answer
   pub answer : Answer
   pub explained : IsExplained (finished_by records) options.level answer
   pub first : IsAnswerOfHistory (judged (history (finished_by records)) options.level) answer
-  -- its text is the end of what went out
+  -- its text is the end of what was printed
   pub front : List ℕ
   pub printed : Appends before after (front ++ answered options.json answer)
-  -- the text of its certificate went into the file, and the number is that of its status
+  -- the text of its certificate was written to the file, and the exit code is that of its status
   pub written : Gains file file' (certificate_text (certificate_of answer))
   pub status : code ≡ code_of (answer_status options.required answer)
-  -- the check of the same records accepts that text, and nothing else comes of it, unless a reader fails or memory is refused
+  -- the check of the same records accepts that text, and has no other result, unless a reader fails or memory is refused
   pub accepted : IsCheck records (certificate_text (certificate_of answer)) (acceptance (certificate_of answer))
-  pub only : (o : Result Judgement Halt) → MayBeCheck records (certificate_text (certificate_of answer)) o → IsAcceptance (certificate_of answer) o
+  pub only : (o : Result Judgement RunError) → MayBeCheck records (certificate_text (certificate_of answer)) o → IsAcceptance (certificate_of answer) o

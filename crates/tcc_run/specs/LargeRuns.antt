@@ -1,4 +1,4 @@
--- What is answered for the records of an input within the large limits, and what a run of explain --large does with their bytes.
+-- The answers for the records of an input within the large limits, and what a run of explain --large does with their bytes.
 use Rattle.std.specs.Prelude.{ℕ, ◌≡◌, ◌≢◌, ◌<◌, ◌≤◌, ◌⊎◌, List, [], length, take, unwrap_or, Option, None, Some}
 use Rattle.std.specs.Io.KnownBytes.{Appends}
 use Rattle.tcc_rows.specs.Answers as rows
@@ -33,7 +33,7 @@ use Rattle.tcc_judge.specs.Verdicts.{rules_of}
 use Rattle.tcc_judge.specs.declared.verdict.Rule.{Rule}
 use Rattle.tcc_rules.specs.declared.verdict.Verdict.{Verdict}
 use Rattle.tcc_rules.specs.declared.verdict.Verdict.TheVariants as verdict
-use Rattle.tcc_print.specs.Courses.{Contents, Gains, IsCourse, Said, TextFails, answer_said, faults_said}
+use Rattle.tcc_print.specs.Courses.{AreSaidFaults, Contents, Gains, IsCourse, Said, TextFails, answer_said, faults_said}
 use Rattle.tcc_print.specs.Printed.{Prints, answered, device_line, memory_line}
 use Rattle.tcc_print.specs.Statuses.{answer_status, code_of}
 use Rattle.tcc_print.specs.declared.options.Options.{Options}
@@ -41,7 +41,7 @@ use Rattle.tcc_print.specs.declared.status.Status.TheVariants.{Anomaly, Device, 
 use Rattle.tcc_rules.specs.Asked.{AllHold, IsVerdictOf}
 use Rattle.tcc_run.specs.declared.large.explained.Explained.{Explained}
 
--- ---- one answer past the small limits
+-- ---- one answer above the small limits
 
 -- an order of a history, with what its text needs: it has no clocks
 abbrev pub bare_order : Level → History → List ℕ → LabelledOrder
@@ -59,20 +59,20 @@ bare level h (first.Cycle s links) = answer.Anomaly (bare_cycle level h links)
 abbrev pub cycle_claim : Level → History → List Link → Option (List Run) → LargeCertificate
 cycle_claim level h links least = claims.Cycle (links_claim_of level h links least)
 
--- what a least cycle claims of that no cycle has fewer steps: up to four steps it claims that, and no runs are needed; past them it claims
--- it with runs by which that keeps all rules of the judge, or claims nothing of it
+-- what a least cycle claims about the least cost. Up to four steps it claims that no cycle has fewer, and no runs are needed. Above that it
+-- claims so with runs by which the claim keeps all rules of the judge, or claims nothing about it
 abbrev pub IsLeastClaimed : Level → History → List Link → Option (List Run) → Type 0
 IsLeastClaimed level h links None = 4 < cost links
 IsLeastClaimed level h links (Some runs) =
     ((cost links ≤ 4) × (runs ≡ [])) ⊎ ((4 < cost links) × AllHold (rules_of h (cycle_claim level h links (Some runs))))
 
--- the claim of a first answer: an order's, told by runs; a cycle's, by its links
+-- the claim of a first answer: that of an order, encoded by runs; that of a cycle, by its links
 abbrev pub IsClaimOf : Level → History → first.Answer → LargeCertificate → Type 0
 IsClaimOf level h (first.Order order) claim = claim ≡ claims.Order (order_claim_of level h order)
 IsClaimOf level h (first.Cycle s links) claim =
     (least : Option (List Run)) × IsLeastClaimed level h links least × (claim ≡ cycle_claim level h links least)
 
--- an answer as it is said of a small history, with the certificate of what is claimed
+-- an answer as said for a small history, with the certificate of what is claimed
 abbrev pub claimed : Options → Answer → LargeCertificate → Said
 claimed options a claim = record {
   text = answered options.json a;
@@ -82,30 +82,31 @@ claimed options a claim = record {
 
 -- ---- one answer
 
--- what is said of a history past the small limits, and the claim of its certificate: its first answer
+-- what is said about a history above the small limits, and the claim of its certificate: its first answer
 abbrev pub IsClaimedOf : Options → History → LargeCertificate → Said → Type 0
 IsClaimedOf options h claim said =
     (a : first.Answer) × first.IsFirstAnswer (judged h options.level) a × IsClaimOf options.level h a claim
     × (said ≡ claimed options (bare options.level h a) claim)
 
--- what is said of a snapshot whose reads all have sources is its first answer, whatever its size: within the small limits as it is said
--- without --large; past them with a claim, for which version 3 of the text has room
+-- what is said about a snapshot whose reads all have sources is its first answer, whatever its size. Within the small limits it is the same
+-- as without --large. Above them it comes with a claim, for which version 3 of the text has room
 abbrev pub IsResolvedAs : Options → Sessions → Said → Type 0
 IsResolvedAs options s said =
     (KeepsLimits s × (a : Answer) × IsAnswerOfHistory (judged (history s) options.level) a × (said ≡ answer_said options a))
     ⊎ ((KeepsLimits s → ⊥) × (claim : LargeCertificate) × IsClaimedOf options (history s) claim said × HasLargeText claim)
 
--- what is said of a snapshot; all its read faults, where there are some
+-- what is said about a snapshot; all its read faults, where there are some
 abbrev pub IsSaidWithLarge : Options → Sessions → Said → Type 0
 IsSaidWithLarge options s said =
     ((read_faults s ≡ []) × IsResolvedAs options s said)
     ⊎ ((read_faults s ≢ []) × (said ≡ faults_said options (read_faults s)))
 
--- the text and the status are those of what is said of a snapshot
+-- the text, the status and the read faults are those of what is said about a snapshot
 abbrev pub IsExplained : Options → Sessions → Explained → Type 0
-IsExplained options s e = (said : Said) × IsSaidWithLarge options s said × (e.text.items ≡ said.text) × (e.status ≡ said.status)
+IsExplained options s e =
+    (said : Said) × IsSaidWithLarge options s said × (e.text.items ≡ said.text) × (e.status ≡ said.status) × AreSaidFaults options said e.faults.items
 
--- what was said of a history is an anomaly of these links
+-- what was said about a history is an anomaly of these links
 abbrev pub HasSaid : Options → History → Said → List Link → Type 0
 HasSaid options h said links =
     ((a : LabelledCycle) × (said ≡ answer_said options (answer.Anomaly a)) × (links ≡ a.links))
@@ -131,7 +132,7 @@ finished bytes = finished_in (answers_of bytes).items
 abbrev pub Finishes : List ℕ → Sessions → Type 0
 Finishes text s = ((rows.answers_of text).fault ≡ None) × (finished_in (rows.answers_of text).items ≡ s)
 
--- the text has the records of a small history, session by session, and nothing else: of the slice of the whole by these links,
+-- the text has the records of a small history, session by session, and nothing else. This history is the slice of the whole by these links,
 -- which is the whole with transactions and operations left out
 abbrev pub IsSliceText : Level → Sessions → List Link → List ℕ → Type 0
 IsSliceText level whole links text =
@@ -155,45 +156,45 @@ IsUnsliced options whole last =
     ⊎ ((last.status ≢ Anomaly)
     ⊎ ((links : List Link) × HasSaid options (history whole) last links × HasNoSlice options.level whole links))
 
--- the records of the slice of what was said last go into the file, if one is given; nothing only where there is no slice
+-- the records of the slice of what was said last are written to the file, if one is given; nothing is written only where there is no slice
 abbrev pub IsSliced : Options → Sessions → Said → Contents → Contents → Type 0
 IsSliced options whole last None file' = file' ≡ None
 IsSliced options whole last (Some file) file' =
     ((slice : List ℕ) × IsSliceOfLast options whole last slice × Gains (Some file) file' slice)
     ⊎ (IsUnsliced options whole last × Gains (Some file) file' [])
 
--- ---- what goes out
+-- ---- what is written
 
 -- the contents of the two files that may be given, that of the certificate and that of the slice
 pub record Files : Type 0 where
   pub certificate : Contents
   pub slice : Contents
 
--- the whole certificate of the last answer goes into its file; nothing where it has none
+-- the whole certificate of the last answer is written to its file; nothing where it has none
 abbrev pub IsCertified : Said → Files → Files → Type 0
 IsCertified last before after = Gains before.certificate after.certificate (unwrap_or last.certificate [])
 
--- the texts went out, and then the certificate, and the slice, if there is one: the status is that of the last
+-- the texts were written, and then the certificate, and the slice, if there is one: the status is that of the last
 abbrev pub AllGoesOut : Options → Sessions → Option (List ℕ) → Option (List ℕ) → Files → Files → List ℕ → Said → ℕ → Type 0
 AllGoesOut options whole before after files files' text last code =
     Appends before after text × IsCertified last files files' × IsSliced options whole last files.slice files'.slice
     × (code ≡ code_of last.status)
 
--- behind what was written a write of the certificate failed: a part of it, from its front, went out, and then comes the line for
--- the device
+-- after what was written a write of the certificate failed: a part of it, from its front, was written, and then comes the line for the
+-- device
 abbrev pub CertificateStops : Options → Said → Option (List ℕ) → Option (List ℕ) → Contents → Contents → ℕ → Type 0
 CertificateStops options last before after file file' code =
     (text : List ℕ) × (last.certificate ≡ Some text) × ((n : ℕ) × Gains file file' (take n text) × (file ≢ None))
     × Prints before after (device_line options.json) Device code
 
--- behind what was written a write of the slice failed, of which a part, from its front, went out; or memory was out before it
+-- after what was written a write of the slice failed, of which a part, from its front, was written; or memory was out before it
 abbrev pub SliceStops : Options → Sessions → Said → Option (List ℕ) → Option (List ℕ) → Contents → Contents → ℕ → Type 0
 SliceStops options whole last before after file file' code =
     ((slice : List ℕ) × (n : ℕ) × IsSliceOfLast options whole last slice × Gains file file' (take n slice)
     × Prints before after (device_line options.json) Device code)
     ⊎ ((last.status ≡ Anomaly) × Gains file file' [] × Prints before after (memory_line options.json) Memory code)
 
--- after the texts the certificate of the last stopped, and its slice wasn't begun; or after the certificate the slice stopped
+-- after the texts the certificate of the last answer stopped, and its slice wasn't begun; or after the certificate the slice stopped
 abbrev pub Stops : Options → Sessions → Said → Option (List ℕ) → Option (List ℕ) → Files → Files → ℕ → Type 0
 Stops options whole last before after files files' code =
     (CertificateStops options last before after files.certificate files'.certificate code × Gains files.slice files'.slice [])
@@ -203,8 +204,8 @@ abbrev pub FileFails : Options → Sessions → Option (List ℕ) → Option (Li
 FileFails options whole before after files files' text last code =
     (between : Option (List ℕ)) × Appends before between text × Stops options whole last between after files files' code
 
--- what a run does with the bytes: its texts go out one after the other, and behind them, into the files that are given, the
--- certificate of the last and, where it is an anomaly, the records of its slice of all that was finished; the status is that of
+-- what a run does with the bytes: its texts are written one after the other. After them, to the files that are given, it writes the
+-- certificate of the last answer and, where that is an anomaly, the records of its slice of all that was finished. The status is that of
 -- the last
 abbrev pub IsLargeRun : Options → List ℕ → Option (List ℕ) → Option (List ℕ) → Files → Files → ℕ → Type 0
 IsLargeRun options bytes before after files files' code =
@@ -215,7 +216,7 @@ IsLargeRun options bytes before after files files' code =
 
 -- ---- what is accepted
 
--- what was said has a certificate, what it claims of the history keeps all rules, and no verdict on it but `Accepted` is that of the rules
+-- what was said has a certificate, its claim about the history keeps all rules, and no verdict on it but `Accepted` is that of the rules
 abbrev pub IsAcceptedOf : History → Said → Type 0
 IsAcceptedOf h said =
     (claim : LargeCertificate) × (said.certificate ≡ Some (large_certificate_text claim)) × AllHold (rules_of h claim)

@@ -1,4 +1,4 @@
--- What is answered for the records of an input, and what a run of explain does with their bytes.
+-- The answers for the records of an input, and what a run of explain does with their bytes.
 use Rattle.std.specs.Prelude.{ℕ, ◌≡◌, ◌≢◌, ◌⊎◌, List, [], ◌∷◌, ◌++◌, take, unwrap_or, Option, None, Some}
 use Rattle.std.specs.Io.KnownBytes.{Appends}
 use Rattle.tcc_rows.specs.Answers as rows
@@ -11,9 +11,9 @@ use Rattle.tcc_explain.specs.Explained.{IsAnswerOfHistory}
 use Rattle.tcc_answer.specs.declared.answer.Answer.{Answer}
 use Rattle.tcc_graph.specs.Levels.{judged}
 use Rattle.tcc_print.specs.Courses as course
-use Rattle.tcc_print.specs.Courses.{AreSaid, Contents, Gains, IsCourse, IsEndedAfter, Said, TextFails, answer_said, faults_said, halt_said}
-use Rattle.tcc_print.specs.Moments.{sealed_in}
-use Rattle.tcc_print.specs.declared.halt.Halt.TheVariants as halt
+use Rattle.tcc_print.specs.Courses.{AreSaid, Contents, Gains, IsCourse, IsEndedAfter, Said, TextFails, answer_said, faults_said, run_error_said}
+use Rattle.tcc_print.specs.Checkpoints.{sealed_in}
+use Rattle.tcc_print.specs.declared.run_error.RunError.TheVariants as error
 use Rattle.tcc_print.specs.declared.options.Options.{Options}
 use Rattle.tcc_print.specs.declared.status.Status.TheVariants.{Device}
 use Rattle.tcc_print.specs.Statuses.{code_of}
@@ -21,8 +21,8 @@ use Rattle.tcc_print.specs.Printed.{device_line, Prints}
 
 -- ---- one answer
 
--- what is said of a snapshot: the first answer for its history at the level that is asked for, where all its reads have
--- sources, else all its read faults
+-- what is said about a snapshot: the first answer for its history at the level that is asked for, where all its reads have sources, else
+-- all its read faults
 abbrev pub IsSaidOfSnapshot : Options → Sessions → Said → Type 0
 IsSaidOfSnapshot options s said =
     ((read_faults s ≡ []) × (a : Answer) × IsAnswerOfHistory (judged (history s) options.level) a × (said ≡ answer_said options a))
@@ -30,7 +30,7 @@ IsSaidOfSnapshot options s said =
 
 -- ---- a run
 
--- options that ask for the same: they may differ in the number of workers alone
+-- options that ask for the same: they may differ only in the number of workers
 pub record AskAlike (some : Options) (other : Options) : Type 0 where
   pub level : some.level ≡ other.level
   pub form : some.json ≡ other.json
@@ -40,7 +40,7 @@ pub record AskAlike (some : Options) (other : Options) : Type 0 where
 abbrev pub IsWholeRun : Options → rows.Answers → List Said → Type 0
 IsWholeRun options all said = course.IsWholeCourse (IsSaidOfSnapshot options) all said
 
--- the run was ended after some items: the answers at the seals among them stand, and then comes why
+-- the run was ended after some items: it gave the answers at the seals among them, and then the reason
 abbrev pub IsEndedRun : Options → List ℕ → List Said → Type 0
 IsEndedRun options text said = course.IsEndedCourse Small (IsSaidOfSnapshot options) options text said
 
@@ -49,36 +49,36 @@ abbrev pub AreAnswersOfRun : Options → List ℕ → List Said → List Said �
 AreAnswersOfRun options text said answers =
     (IsWholeRun options (rows.answers_of text) said × (answers ≡ said)) ⊎ IsEndedAfter Small (IsSaidOfSnapshot options) options text answers said
 
--- the run was ended by the fault of the records: the answers at all seals before it stand, and then comes its line
+-- the run was ended by the fault of the records: it gave the answers at all seals before the fault, and then its line
 abbrev pub IsStopped : Options → rows.Answers → List Said → Type 0
 IsStopped options all said =
     (fault : RowFault) × (answers : List Said) × (all.fault ≡ Some fault) × AreSaid (IsSaidOfSnapshot options) (sealed_in all.items) answers
-    × (said ≡ answers ++ halt_said options (halt.Row fault) ∷ [])
+    × (said ≡ answers ++ run_error_said options (error.Row fault) ∷ [])
 
--- the one list is the other's beginning
+-- the one list is the beginning of the other
 abbrev pub AreFront : List Said → List Said → Type 0
 AreFront some all = (rest : List Said) × (all ≡ some ++ rest)
 
--- ---- what goes out
+-- ---- what is written
 
--- a file is given, and a part of the text, from its front, went out to it
+-- a file is given, and a part of the text, from its front, was written to it
 abbrev pub GainsPart : Contents → Contents → List ℕ → Type 0
 GainsPart file file' text = (n : ℕ) × Gains file file' (take n text) × (file ≢ None)
 
--- the text went out, and then all of the certificate, if there is one: the status is that of the last
+-- the text was written, and then all of the certificate, if there is one: the status is that of the last
 abbrev pub AllGoesOut : Option (List ℕ) → Option (List ℕ) → Contents → Contents → List ℕ → Said → ℕ → Type 0
 AllGoesOut before after file file' text last code =
     Appends before after text × Gains file file' (unwrap_or last.certificate []) × (code ≡ code_of last.status)
 
--- a write of the certificate failed after the text: a part of it, from its front, went out, and the line for the device
--- comes behind the text
+-- a write of the certificate failed after the text: a part of it, from its front, was written, and the line for the device comes after the
+-- text
 abbrev pub CertificateFails : Options → Option (List ℕ) → Option (List ℕ) → Contents → Contents → List ℕ → Said → ℕ → Type 0
 CertificateFails options before after file file' text last code =
     ((certificate : List ℕ) × (last.certificate ≡ Some certificate) × GainsPart file file' certificate)
     × ((between : Option (List ℕ)) × Appends before between text × Prints between after (device_line options.json) Device code)
 
--- what a run does with the bytes: its texts go out one after the other, and behind them, into the file that is given for it,
--- the certificate of the last; the status is that of the last
+-- what a run does with the bytes: its texts are written one after the other. After them, to the file that is given for it, comes the
+-- certificate of the last; the status is that of the last
 abbrev pub IsExplainRun : Options → List ℕ → Option (List ℕ) → Option (List ℕ) → Contents → Contents → ℕ → Type 0
 IsExplainRun options bytes before after file file' code =
     IsCourse Small (IsSaidOfSnapshot options) options bytes

@@ -13,10 +13,9 @@ use tcc_explain::laws::written;
 use tcc_explain::{Gate, Workers, explain};
 use tcc_graph::Level;
 
-/// The first answer, at a level, for exactly what the passes recorded, where they are those of all sessions of the book;
-/// it is the same in whatever order their recorders held the lock, and for every number of workers. The gate is
-/// called before each start that they search. The answer's certificate has a text, which is read as this certificate. The
-/// book stays as it is.
+/// The first answer, at a level, for exactly what the passes recorded, where they are those of all sessions of the book. It is the same in
+/// whatever order their recorders held the lock, and for every number of workers. The gate is called before each start that they search.
+/// The answer's certificate has a text, which is read as this certificate. The book stays as it is.
 ///
 /// ```rust
 /// let answer = audit(rt, alloc, book, passes, Level::Causal, workers, &OpenGate)?;

@@ -59,7 +59,7 @@ pub(crate) fn bare_answer(
 ) -> Result<Answer, NoMemory>
     ensures { IsFirst (judged graph.now level) first → IfOk result (IsBareAnswer (judged graph.now level)) }
 {
-    // Where there is an order there is no cycle, as this call says.
+    // This call ensures that where there is an order there is no cycle.
     order_or_cycle();
     let labels = Labels::of_large(alloc, graph)?;
     match first {

@@ -6,7 +6,7 @@ ghost use Rattle.tcc_print.specs.{Saying.SaysAt, private.Courses.AllAnswered, pr
 ghost use Rattle.tcc_run.specs.Runs.{IsExplainRun};
 ghost use Rattle.tcc_run.specs.private.Stages.{Concludes, Follows, GainsKept, GainsKeptPart, IsCertifiable, answer_in, course};
 
-use crate::outcome::{Outcome, anomaly_of};
+use crate::outcome::{ExplainOutcome, anomaly_of};
 use std::alloc::Global;
 use std::io::{Read, Write};
 use std::thread::Threads;
@@ -15,70 +15,70 @@ use tcc_explain::Gate;
 use tcc_print::notes::note_last;
 use tcc_print::printing::{print_device, print_endless, print_memory};
 use tcc_print::status::last_status;
-use tcc_print::{Last, Options, RunContext, again, say_again, say_anew};
-use tcc_rows::{Moment, Recording};
+use tcc_print::{Options, PreviousAnswer, RunContext, print_new, print_unchanged, unchanged};
+use tcc_rows::{Checkpoint, Recording};
 use tcc_txn::{NoMemory, Snapshot};
 use tcc_verdict::stop;
 
-/// Says at a moment of the recording what is to be said of the snapshot, and keeps it: what was said last, if nothing was finished
-/// since. Else the run ends with this number.
-fn say<T: Threads + Sync, W: Write, N: Write, G: Gate>(
+/// Says at a checkpoint of the recording what is to be said about the snapshot, and keeps it: what was said last, if nothing was finished
+/// since. Else the run ends with this exit code.
+fn answer_checkpoint<T: Threads + Sync, W: Write, N: Write, G: Gate>(
     run: &RunContext<T, G>,
-    moment: Moment,
+    checkpoint: Checkpoint,
     snapshot: &Snapshot,
-    last: Option<Last<Outcome>>,
+    last: Option<PreviousAnswer<ExplainOutcome>>,
     is_certified: bool,
     out: &mut W,
     notes: &mut N,
-) -> Result<Last<Outcome>, u8>
+) -> Result<PreviousAnswer<ExplainOutcome>, u8>
     requires earlier { IfSome last (Follows run.now.options.now.level snapshot.now) }
     requires certifiable { IfSome last (λ last. IsCertifiable is_certified last.outcome) }
     ensures earlier { IfOk result (Follows run.now.options.now.level snapshot.now) }
     ensures certifiable { IfOk result (λ last. IsCertifiable is_certified last.outcome) }
-    ensures said { SaysAt (course run.now.options.now) moment snapshot.now last (W.contents out.old) (W.contents out.new) result }
+    ensures said { SaysAt (course run.now.options.now) checkpoint snapshot.now last (W.contents out.old) (W.contents out.new) result }
 {
-    match again(last, snapshot.transactions()) {
-        Ok(last) => say_again(run, moment, snapshot, last, out, notes),
+    match unchanged(last, snapshot.transactions()) {
+        Ok(last) => print_unchanged(run, checkpoint, snapshot, last, out, notes),
         Err(last) => {
             // One answer is held at a time: the tables of a large history fill much memory.
             let earlier = anomaly_of(run.alloc, last);
-            let found = Outcome::of(run, snapshot, earlier, is_certified);
-            say_anew(run, snapshot, found, out, notes)
+            let found = ExplainOutcome::of(run, snapshot, earlier, is_certified);
+            print_new(run, snapshot, found, out, notes)
         }
     }
 }
 
-/// Writes the answers at the seals that are still to come and the one at the end, if it is due, and gives what was said last;
-/// or writes what ends the run before, and gives the number that it ends with. Tables are worked out where a certificate is wanted.
+/// Writes the answers at the seals that are still to come and the one at the end, if it is due, and returns what was said last. Or it
+/// writes what ends the run before, and returns the exit code. Tables are worked out where a certificate is wanted.
 fn answer_all<R: Read + Drop, T: Threads + Sync, W: Write, N: Write, G: Gate>(
     run: &RunContext<T, G>,
     recording: &mut Recording<R>,
     is_certified: bool,
     out: &mut W,
     notes: &mut N,
-) -> Result<Last<Outcome>, u8>
+) -> Result<PreviousAnswer<ExplainOutcome>, u8>
     ensures certifiable { IfOk result (λ last. IsCertifiable is_certified last.outcome) }
     ensures answers { (bytes : List ℕ) → IsRecording Small R.remaining recording.old [] (answers_of bytes) → IsWithin R.remaining recording.old.rows (records_of bytes)
         → fault_met recording.old.rows ≡ None
         → MatchResult result (AllAnswered (course run.now.options.now) bytes (W.contents out.old) (W.contents out.new))
         (EndsEarly (course run.now.options.now) bytes (W.contents out.old) (W.contents out.new)) }
 {
-    let mut last: Option<Last<Outcome>> = None;
-    'moments: for _turn in 0..u64::MAX {
+    let mut last: Option<PreviousAnswer<ExplainOutcome>> = None;
+    'checkpoints: for _turn in 0..u64::MAX {
         match recording.advance(run.alloc) {
-            Ok(moment) => {
-                let said = say(
+            Ok(checkpoint) => {
+                let said = answer_checkpoint(
                     run,
-                    moment,
+                    checkpoint,
                     recording.snapshot(),
                     last,
                     is_certified,
                     out,
                     notes,
                 )?;
-                match moment {
-                    Moment::Seal => last = Some(said),
-                    Moment::End => return Ok(said),
+                match checkpoint {
+                    Checkpoint::Seal => last = Some(said),
+                    Checkpoint::End => return Ok(said),
                 }
             }
             Err(fault) => {
@@ -89,15 +89,15 @@ fn answer_all<R: Read + Drop, T: Threads + Sync, W: Write, N: Write, G: Gate>(
     Err(print_endless(out, run.options.json))
 }
 
-/// Writes the answers for the records of the reader, and gives what was said last; or writes what ends the run before, and gives
-/// the number that it ends with.
+/// Writes the answers for the records of the reader, and returns what was said last. Or it writes what ends the run before, and returns the
+/// exit code.
 fn answer_records<R: Read + Drop, T: Threads + Sync, W: Write, N: Write, G: Gate>(
     run: &RunContext<T, G>,
     reader: R,
     is_certified: bool,
     out: &mut W,
     notes: &mut N,
-) -> Result<Last<Outcome>, u8>
+) -> Result<PreviousAnswer<ExplainOutcome>, u8>
     ensures certifiable { IfOk result (λ last. IsCertifiable is_certified last.outcome) }
     ensures answers { IfSome (R.remaining reader) (λ bytes. MatchResult result (AllAnswered (course run.now.options.now) bytes (W.contents out.old) (W.contents out.new))
         (EndsEarly (course run.now.options.now) bytes (W.contents out.old) (W.contents out.new))) }
@@ -112,7 +112,10 @@ fn answer_records<R: Read + Drop, T: Threads + Sync, W: Write, N: Write, G: Gate
 }
 
 /// Writes the certificate of what was said last, if that is an answer and a file is given for it.
-fn send_certificate<C: Write>(last: &Outcome, file: &mut Option<C>) -> Result<(), CertWriteFault>
+fn send_certificate<C: Write>(
+    last: &ExplainOutcome,
+    file: &mut Option<C>,
+) -> Result<(), CertWriteFault>
     requires { IsCertifiable (is_some file.old) last.now }
     ensures whole { OnOk result (GainsKept (answer_in last.now) (option_map C.contents file.old) (option_map C.contents file.new)) }
     ensures part { OnErr result (GainsKeptPart (answer_in last.now) (option_map C.contents file.old) (option_map C.contents file.new)) }
@@ -121,17 +124,17 @@ fn send_certificate<C: Write>(last: &Outcome, file: &mut Option<C>) -> Result<()
         return Ok(());
     };
     match last {
-        Outcome::Tabled(answer) => answer.write_certificate(file),
-        Outcome::Bare { .. } => unreachable!(),
-        Outcome::Unresolved { .. } => Ok(()),
+        ExplainOutcome::Tabled(answer) => answer.write_certificate(file),
+        ExplainOutcome::Bare { .. } => unreachable!(),
+        ExplainOutcome::Unresolved { .. } => Ok(()),
     }
 }
 
-/// Writes the certificate of what was said last, if that is an answer and a file is given for it, and gives the number that the
-/// run ends with. Where an order has fewer transactions than are required, this is noted.
+/// Writes the certificate of what was said last, if that is an answer and a file is given for it, and returns the exit code of the run.
+/// Where an order has fewer transactions than are required, this is noted.
 fn conclude<W: Write, C: Write, N: Write>(
     alloc: Global,
-    last: Outcome,
+    last: ExplainOutcome,
     file: &mut Option<C>,
     options: &Options,
     out: &mut W,
@@ -148,16 +151,14 @@ fn conclude<W: Write, C: Write, N: Write>(
     last_status(&answer, options.required).code()
 }
 
-/// Writes an answer at the level for what was finished before each seal of the bytes of the reader, and before their end,
-/// as text or as lines of JSON, and behind it, into the file if one is given, the certificate of the last. Gives the number
-/// that the run ends with. All of this is the same for every number of workers. What a person may want to know besides, who
-/// reads the standard error, goes to the notes.
+/// Writes an answer at the level for what was finished before each seal of the bytes of the reader, and before their end, as text or as
+/// lines of JSON. After it, to the file if one is given, it writes the certificate of the last answer. Returns the exit code of the run.
+/// All of this is the same for every number of workers. Notes for a person who reads the standard error are written to `notes`.
 ///
-/// Where a file is given, the gate is called before each start that the workers search. Without one nobody needs the tables of a
-/// certificate, and each answer is found without them.
+/// Where a file is given, the gate is called before each start that the workers search. Without one the tables of a certificate aren't
+/// needed, and each answer is found without them.
 ///
-/// The file is empty before: nothing goes into it where the last answer is that reads have faults, or where the run ends
-/// by a fault.
+/// The file is empty before: nothing is written to it where the last answer is that reads have faults, or where the run ends by a fault.
 ///
 /// ```rust
 /// let mut notes = io::sink();

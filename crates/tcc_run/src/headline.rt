@@ -13,10 +13,10 @@ use tcc_explain::{Anomaly, Answer, ExplainFault, Gate, NextFault, Workers, expla
 use tcc_graph::Level;
 use tcc_txn::Snapshot;
 
-/// Explains a snapshot at a level by so many workers. Whatever their number and the order in which they search, the answer
-/// is either a commit order that satisfies the axiom of the level, or a cycle, each derived link with its reason, and
-/// no cycle has fewer steps; and the certificate given with it is accepted by the checker, whose yes alone implies this. Or
-/// these are all read faults of the snapshot. `tcc_explain::laws::one_answer` says that there is one such first answer.
+/// Explains a snapshot at a level by this many workers. Whatever their number and the order in which they search, the answer is either a
+/// commit order that satisfies the axiom of the level, or a cycle. Of the cycle each derived link has its reason, and no cycle has fewer
+/// steps. The certificate given with the answer is accepted by the checker, whose yes alone implies this. Or the result is all read faults
+/// of the snapshot. `tcc_explain::laws::one_answer` says that there is one such first answer.
 pub fn explain_snapshot<G: Gate>(
     rt: &(impl Threads + Sync),
     alloc: Global,
@@ -32,10 +32,9 @@ pub fn explain_snapshot<G: Gate>(
     explain(rt, alloc, snapshot, level, workers, gate)
 }
 
-/// Explains a snapshot after an earlier anomaly, at its level: what `explain_snapshot` says of an answer holds of this one,
-/// whose search begins with what the earlier cycle costs now. Where there are no read faults it may tell the first link of
-/// that cycle that is none of this history's; `tcc_explain::laws::grown` says that it tells none where the snapshot continues
-/// the one of the anomaly.
+/// Explains a snapshot after an earlier anomaly, at its level. What `explain_snapshot` says about an answer holds for this one, whose
+/// search begins with what the earlier cycle costs now. Where there are no read faults it may report the first link of that cycle that this
+/// history doesn't have. `tcc_explain::laws::grown` says that it reports none where the snapshot continues the one of the anomaly.
 pub fn explain_snapshot_next<G: Gate>(
     rt: &(impl Threads + Sync),
     alloc: Global,

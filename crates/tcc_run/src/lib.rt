@@ -1,6 +1,6 @@
-//! Runs of `tcc` from bytes to bytes: what `tcc explain` and `tcc check` write for what they read, and the statuses that
-//! they end with; and the answer for what recorders in threads left in a book. Nothing here knows of command lines or files, so other
-//! programs can make the same runs.
+//! Runs of `tcc` from bytes to bytes: what `tcc explain` and `tcc check` write for what they read, and the statuses that they end with. And
+//! the answer for what recorders in threads left in a book. Nothing here depends on command lines or files, so other programs can make the
+//! same runs.
 #![tactic(auto)]
 
 mod audit_fault;
@@ -20,6 +20,6 @@ pub use headline::{explain_snapshot, explain_snapshot_next};
 pub use large::{Explained, Stage, Watcher, explain_large_snapshot, run_large};
 pub use naming::names;
 pub use tcc_explain::{Gate, OpenGate};
-pub use tcc_print::{Halt, Options, Status, json, printing, texts, verdict_text};
+pub use tcc_print::{Options, RunError, Status, json, printing, texts, verdict_text};
 pub use tcc_rules::{Claim, Judgement};
 pub use tcc_verdict::run_check;

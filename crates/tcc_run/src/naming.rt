@@ -31,9 +31,8 @@ fn all_name_keys(txns: &[Txn])
     }
 }
 
-/// A snapshot keeps the limits, and its keys are names, whoever built it: what `laws::written` of `tcc_explain` asks of it, so
-/// that the certificate of its answer has a text, which is read as this certificate. It looks at each operation once, and
-/// changes nothing.
+/// A snapshot keeps the limits, and its keys are names, whoever built it. `laws::written` of `tcc_explain` requires this, so that the
+/// certificate of its answer has a text, which is read as this certificate. It looks at each operation once, and changes nothing.
 pub fn names(snapshot: &Snapshot)
     ensures limits { KeepsLimits snapshot.now }
     ensures names { HasNames snapshot.now }

@@ -1,11 +1,11 @@
-//! What is said of a snapshot: its answer, or all its read faults.
+//! What is said about a snapshot: its answer, or all its read faults.
 ghost use Rattle.std.specs.Prelude.{◌≡◌, ℕ, IfOk, IfSome, MatchResult, false, true};
 ghost use Rattle.tcc_txn.specs.{Finished.KeepsLimits, Snapshots.Sessions};
 ghost use Rattle.tcc_graph.specs.declared.level.Level.{Level};
 ghost use Rattle.tcc_reads.specs.Refusals.{IsRefusal};
 ghost use Rattle.tcc_explain.specs.Explained.{IsAnswerOfSnapshot};
 ghost use Rattle.tcc_print.specs.{Saying.IsTold, Statuses.last_status};
-ghost use Rattle.tcc_run.specs.private.Stages.{Follows, HasEarlier, IsCertifiable, IsEarlier, answer_in, course};
+ghost use Rattle.tcc_run.specs.private.Stages.{Follows, HasEarlier, IsCertifiable, IsEarlier, answer_in, course, outcome_answer};
 
 use crate::bare::bare_answer;
 use crate::headline::{explain_snapshot, explain_snapshot_next};
@@ -17,13 +17,13 @@ use tcc_explain::laws::grown;
 use tcc_explain::{Anomaly, Answer, ExplainFault, Gate, NextFault};
 use tcc_graph::{LargeGraph, Level};
 use tcc_print::printing::{send_answer, send_unresolved};
-use tcc_print::{Last, Options, RunContext, Statement};
+use tcc_print::{Options, PreviousAnswer, Printable, RunContext};
 use tcc_reads::ReadFault;
 use tcc_txn::{NoMemory, Snapshot};
 
-/// What is said of a snapshot: its answer, or all its read faults in the place of one.
+/// What is said about a snapshot: its answer, or all its read faults in place of one.
 #[derive(Drop)]
-pub(crate) enum Outcome {
+pub(crate) enum ExplainOutcome {
     /// With the tables of its certificate.
     Tabled(Answer),
     /// Without them, where no certificate is wanted; and the graph, whose history has them.
@@ -75,30 +75,29 @@ fn work_out<T: Threads + Sync, G: Gate>(
     }
 }
 
-/// What is to be said of a snapshot, with the tables of its certificate; it continues that of the earlier anomaly, if there was
-/// one.
+/// What is to be said about a snapshot, with the tables of its certificate; it continues that of the earlier anomaly, if there was one.
 fn tabled<T: Threads + Sync, G: Gate>(
     run: &RunContext<T, G>,
     snapshot: &Snapshot,
     earlier: Option<Anomaly>,
-) -> Result<Outcome, NoMemory>
+) -> Result<ExplainOutcome, NoMemory>
     requires earlier { IfSome earlier (IsEarlier run.now.options.now.level snapshot.now) }
     ensures told { IfOk result (IsTold (course run.now.options.now) snapshot.now) }
     ensures earlier { IfOk result (HasEarlier run.now.options.now.level snapshot.now) }
     ensures certifiable { IfOk result (IsCertifiable true) }
 {
     match work_out(run, snapshot, &earlier) {
-        Ok(answer) => Ok(Outcome::Tabled(answer)),
-        Err(ExplainFault::Reads(faults)) => Ok(Outcome::Unresolved { faults, earlier }),
+        Ok(answer) => Ok(ExplainOutcome::Tabled(answer)),
+        Err(ExplainFault::Reads(faults)) => Ok(ExplainOutcome::Unresolved { faults, earlier }),
         Err(ExplainFault::NoMemory) => Err(NoMemory),
     }
 }
 
-/// What is to be said of a snapshot, without tables. An earlier anomaly doesn't help there.
+/// What is to be said about a snapshot, without tables. An earlier anomaly doesn't help there.
 fn bare<T: Threads + Sync, G: Gate>(
     run: &RunContext<T, G>,
     snapshot: &Snapshot,
-) -> Result<Outcome, NoMemory>
+) -> Result<ExplainOutcome, NoMemory>
     ensures told { IfOk result (IsTold (course run.now.options.now) snapshot.now) }
     ensures earlier { IfOk result (HasEarlier run.now.options.now.level snapshot.now) }
     ensures certifiable { IfOk result (IsCertifiable false) }
@@ -106,27 +105,27 @@ fn bare<T: Threads + Sync, G: Gate>(
     let (alloc, level) = (run.alloc, run.options.level);
     let answered = answer(run, snapshot, level, false)?;
     match answered {
-        Answered::Unresolved(faults) => Ok(Outcome::Unresolved {
+        Answered::Unresolved(faults) => Ok(ExplainOutcome::Unresolved {
             faults,
             earlier: None,
         }),
         Answered::Tabled(_) => unreachable!(),
         Answered::Bare { graph, first, .. } => {
             let answer = bare_answer(alloc, &graph, level, first)?;
-            Ok(Outcome::Bare { graph, answer })
+            Ok(ExplainOutcome::Bare { graph, answer })
         }
     }
 }
 
-impl Outcome {
-    /// What is to be said of the snapshot, with tables where a certificate is wanted. It continues that of the earlier anomaly, if
-    /// there was one.
+impl ExplainOutcome {
+    /// What is to be said about the snapshot, with tables where a certificate is wanted. It continues that of the earlier anomaly, if there
+    /// was one.
     pub(crate) fn of<T: Threads + Sync, G: Gate>(
         run: &RunContext<T, G>,
         snapshot: &Snapshot,
         earlier: Option<Anomaly>,
         is_certified: bool,
-    ) -> Result<Outcome, NoMemory>
+    ) -> Result<ExplainOutcome, NoMemory>
         requires earlier { IfSome earlier (IsEarlier run.now.options.now.level snapshot.now) }
         ensures told { IfOk result (IsTold (course run.now.options.now) snapshot.now) }
         ensures earlier { IfOk result (HasEarlier run.now.options.now.level snapshot.now) }
@@ -139,33 +138,34 @@ impl Outcome {
         }
     }
 
-    /// The answer, of which the tables may be left out; none where there are read faults in its place.
+    /// The answer, perhaps without its tables; none where there are read faults in its place.
     pub(crate) fn into_answer(self) -> Option<Answer>
-        ensures { (required : ℕ) → last_status required result ≡ last_status required (answer_in self) }
+        ensures found { result ≡ outcome_answer self }
+        ensures status { (required : ℕ) → last_status required result ≡ last_status required (answer_in self) }
     {
         match self {
-            Outcome::Tabled(answer) => Some(answer),
-            Outcome::Bare { graph, answer } => {
+            ExplainOutcome::Tabled(answer) => Some(answer),
+            ExplainOutcome::Bare { graph, answer } => {
                 drop(graph);
                 Some(answer)
             }
-            Outcome::Unresolved { .. } => None,
+            ExplainOutcome::Unresolved { .. } => None,
         }
     }
 
-    /// The last anomaly by which the next tables are searched, without its own; none where there was none.
+    /// The last anomaly, by which the next tables are searched, without its own tables; none where there was none.
     pub(crate) fn into_anomaly(self, alloc: Global) -> Option<Anomaly>
         ensures { (level : Level) (s : Sessions) → HasEarlier level s self → IfSome result (IsEarlier level s) }
     {
         match self {
-            Outcome::Tabled(Answer::Anomaly(anomaly)) => Some(anomaly.without_tables(alloc)),
-            Outcome::Tabled(Answer::Commit(_)) | Outcome::Bare { .. } => None,
-            Outcome::Unresolved { earlier, .. } => earlier,
+            ExplainOutcome::Tabled(Answer::Anomaly(anomaly)) => Some(anomaly.without_tables(alloc)),
+            ExplainOutcome::Tabled(Answer::Commit(_)) | ExplainOutcome::Bare { .. } => None,
+            ExplainOutcome::Unresolved { earlier, .. } => earlier,
         }
     }
 }
 
-impl Statement for Outcome {
+impl Printable for ExplainOutcome {
     ghost use Rattle.std.specs.Prelude.{refl};
     ghost use Rattle.tcc_run.specs.private.Stages.{course};
 
@@ -173,25 +173,33 @@ impl Statement for Outcome {
 
     fn send<W: Write>(&self, alloc: Global, options: &Options, out: &mut W) -> Result<(), u8> {
         match self {
-            Outcome::Tabled(answer) | Outcome::Bare { answer, .. } => {
+            ExplainOutcome::Tabled(answer) | ExplainOutcome::Bare { answer, .. } => {
                 send_answer(alloc, answer, options.json, out)
             }
-            Outcome::Unresolved { faults, .. } => send_unresolved(alloc, faults, options.json, out),
+            ExplainOutcome::Unresolved { faults, .. } => send_unresolved(
+                alloc,
+                faults,
+                options.json,
+                out,
+            ),
         }
     }
 
     fn read_faults(&self) -> &[ReadFault] {
         match self {
-            Outcome::Tabled(_) | Outcome::Bare { .. } => &[],
-            Outcome::Unresolved { faults, .. } => faults,
+            ExplainOutcome::Tabled(_) | ExplainOutcome::Bare { .. } => &[],
+            ExplainOutcome::Unresolved { faults, .. } => faults,
         }
     }
 
     ghost asked = { λ options. refl };
 }
 
-/// The anomaly that was said last, or before read faults that were; none where there was none.
-pub(crate) fn anomaly_of(alloc: Global, last: Option<Last<Outcome>>) -> Option<Anomaly>
+/// The anomaly that was said last, or before the read faults that were said last; none where there was none.
+pub(crate) fn anomaly_of(
+    alloc: Global,
+    last: Option<PreviousAnswer<ExplainOutcome>>,
+) -> Option<Anomaly>
     ensures { (level : Level) (s : Sessions) → IfSome last (Follows level s) → IfSome result (IsEarlier level s) }
 {
     match last {

@@ -1,4 +1,4 @@
--- Rows that are capped as they lie are those that searches speak of.
+-- Rows that are stored capped are those that searches describe.
 use Rattle.std.proofs.Common.{◌≡◌, ◌<◌, ◌≤◌, ℕ, Bool, true, false, cond, List, [], ◌∷◌, map, Option, None, Some, refl, ap, ◌∙◌, arith}
 use Rattle.std.specs.Prelude.{min, nat_lt}
 use Rattle.std.proofs.lemmas.Bool.{ltb-true, ltb-false}

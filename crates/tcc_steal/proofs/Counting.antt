@@ -1,4 +1,4 @@
--- How often a number stands in a list, and lists that have each number once.
+-- How often a number is in a list, and lists that have each number once.
 use Rattle.std.proofs.Common.{◌≡◌, ◌≢◌, ◌<◌, ◌≤◌, ◌+◌, ◌==◌, ℕ, zero, suc, Bool, true, false, ◌⊎◌, inl, inr, List, [], ◌∷◌, ◌++◌, length, flat_map, Contains}
 use Rattle.std.proofs.Common.{get_or, set, get_or-set_same, length-set, refl, sym, ◌∙◌, ap, arith}
 use Rattle.std.proofs.lemmas.Bool.{cases_eq, eq-eqb, ne_eqb}
@@ -7,7 +7,7 @@ use Rattle.std.proofs.lemmas.List.Elements.{All-contains, Contains-get_or}
 use Rattle.tcc_graph.specs.Orders.{IsNumbering}
 use Rattle.tcc_steal.specs.Steps.{without}
 
--- 1 where the numbers are one, else 0
+-- 1 where the test holds, else 0
 abbrev pub one_if : Bool → ℕ
 one_if true = 1
 one_if false = 0
@@ -45,7 +45,7 @@ in_times x (y ∷ xs) some = go (cases_eq y x) (λ rest. in_times x xs rest)
     go (inl same) rest = (0, omega arith, same)
     go (inr other) rest = let none : one_if (y == x) ≡ 0 = ap one_if (ne_eqb y x other) in later y x xs (rest (omega (arith, some, none)))
 
--- two places
+-- a number at two places is counted twice
 pub times_twice : (x : ℕ) (xs : List ℕ) (i j : ℕ) → i < j → j < length xs → get_or xs i 0 ≡ x → get_or xs j 0 ≡ x → 2 ≤ times x xs
 times_twice x [] i j less within one two = absurd (omega arith)
 times_twice x (y ∷ xs) i zero less within one two = absurd (omega arith)
@@ -55,7 +55,7 @@ times_twice x (y ∷ xs) zero (suc j) less within one two =
     omega (arith, same, times_in x xs (j, inside, get_or_default xs j x 0 inside ∙ two))
 times_twice x (y ∷ xs) (suc i) (suc j) less within one two = omega (arith, times_twice x xs i j (omega arith) (omega arith) one two)
 
--- no two places have one number
+-- no two places have the same number
 abbrev AreApart : List ℕ → Type 0
 AreApart xs = (i j : ℕ) → i < j → j < length xs → get_or xs i 0 ≢ get_or xs j 0
 
@@ -130,7 +130,7 @@ module _ {X : Type 0} (f : X → List ℕ) where
   times_bound (y ∷ xs) zero a x = omega (arith, times_append x (f a) (flat_map f xs), times_append x (f y) (flat_map f xs))
   times_bound (y ∷ xs) (suc i) a x = omega (arith, times_bound xs i a x, times_append x (f y) (flat_map f xs), times_append x (f y) (flat_map f (set xs i a)))
 
-  -- what the parts have after one has changed is of it or was there
+  -- what the parts have after one has changed is in that one, or was there before
   pub from_set : (xs : List X) (i : ℕ) (a : X) (c : ℕ) → Contains (flat_map f (set xs i a)) c → Contains (flat_map f xs) c ⊎ Contains (f a) c
   from_set xs i a c inside = go (cases_one (times_bound xs i a c))
     where
@@ -148,7 +148,7 @@ module _ {X : Type 0} (f : X → List ℕ) where
       go (inl there) = inl (in_times c (flat_map f xs) there)
       go (inr here) = inr (in_times c (f a) here)
 
-  -- what the parts had they have, where the one that has changed kept its own
+  -- the parts still have what they had, where the one that has changed kept its own
   pub into_set : (xs : List X) (i : ℕ) (a d : X) (c : ℕ) → i < length xs → times c (f (get_or xs i d)) ≤ times c (f a) → Contains (flat_map f xs) c
       → Contains (flat_map f (set xs i a)) c
   into_set xs i a d c within more inside =

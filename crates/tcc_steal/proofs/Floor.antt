@@ -1,4 +1,4 @@
--- The floor of the bound: no cycle costs less, and it is what some cycle costs, or there is none.
+-- The floor of the bound: no cycle costs less, and it is the cost of some cycle, or there is none.
 use Rattle.std.proofs.Common.{◌≡◌, ◌<◌, ◌≤◌, ◌+◌, ◌-◌, ◌==◌, ◌⊎◌, ◌&&◌, ℕ, zero, suc, Bool, true, false, inl, inr}
 use Rattle.std.proofs.Common.{List, [], ◌∷◌, length, Option, None, Some, cond, nat_lt, refl, sym, ◌∙◌, ap, subst}
 use Rattle.std.proofs.Common.{le_trans, arith}
@@ -104,7 +104,7 @@ not_less c d low = go (nat_lt c d) refl
     go true e = let less : c < d = ltb-true c d e in absurd (omega arith)
     go false e = refl
 
--- links that lead cost no less than cheapest ones, which are as many and of which each costs something
+-- links that lead cost no less than some cheapest ones, which are as many and each cost something
 record Cheap (t : Tables) (u v most some : ℕ) : Type 0 where
   paid : ℕ
   low : paid ≤ most
@@ -185,7 +185,7 @@ floor_below j t is c (s, links, cycle, costs) =
     let (k, low, found) = cost_of j t is s links cycle in
     subst (λ (z : ℕ). least_cost t ≤ z) costs (le_trans (first_least 18446744073709551615 (is_cycle_cost t) k found) low)
 
--- the floor is what some cycle costs, or the number for none
+-- the floor is the cost of some cycle, or the number for none
 pub floor_attained : (j : Judged) (t : Tables) → IsPricesOf j t → (least_cost t ≡ 18446744073709551615) ⊎ IsCycleCost j (least_cost t)
 unfolding least_cost
 floor_attained j t is = go (first_found 18446744073709551615 (is_cycle_cost t))

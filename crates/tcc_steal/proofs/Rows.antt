@@ -23,7 +23,7 @@ use Rattle.tcc_steal.specs.private.Working.{KnowsMore, HasEnded, whole_row}
 
 -- ---- rows from their start upward
 
--- what is below the start stands outside
+-- what is below the start is outside
 below_outside : (j : Judged) (s : ℕ) (row : List (Option ℕ)) → IsSearchRow j s row → (v : ℕ) → v < s → in_row row v ≡ None
 below_outside j s row exact v low = go (in_row row v) refl
   where
@@ -81,7 +81,7 @@ ended_more j old new s row more ended = record {
 
 -- ---- on the way
 
--- the search goes on: its start is still outside, and so many have joined
+-- the search goes on: its start is still outside, and this many have joined
 pub record IsOn (j : Judged) (s : ℕ) (n : ℕ) (search : Search) : Type 0 where
   pub search_of : IsSearchOf j s search
   pub outside : in_row search.row s ≡ None
@@ -95,7 +95,7 @@ route_ends_below : (j : Judged) (s v : ℕ) (links : List Link) → IsRoute j s 
 route_ends_below j s v [] (some, lead) = absurd (omega arith)
 route_ends_below j s v (l ∷ links) (some, lead) = ends_below j s v l links lead
 
--- a step of the search within a cap, and what it told
+-- a step of the search within a cap, and its result
 pub record IsStep (j : Judged) (s cap : ℕ) (old new : Search) (told : Settled) : Type 0 where
   pub search_of : IsSearchOf j s new
   pub settles : Settles j s cap old.row new.row told

@@ -1,4 +1,4 @@
--- What the workers brought settles the cost of a least cycle, and what is told of it is so.
+-- The results of the workers settle the cost of a least cycle, and what is returned about it is true.
 use Rattle.std.proofs.Common.{◌≡◌, ◌≢◌, ◌<◌, ◌≤◌, ◌+◌, ◌-◌, ◌==◌, ◌⊎◌, inl, inr, ℕ, zero, suc, List, [], ◌∷◌, ◌++◌}
 use Rattle.std.proofs.Common.{append-nil, length, map, drop, get_or, Option, None, Some, All, Contains, refl, sym, ◌∙◌, ap}
 use Rattle.std.proofs.Common.{subst, arith}
@@ -25,7 +25,7 @@ use Rattle.tcc_core.proofs.Settlement.{least_cycle, capped_rows, returned_starts
 use Rattle.tcc_steal.specs.Findings.{IsFirst, IsFound}
 use Rattle.tcc_steal.specs.private.Floors.{least_cost}
 use Rattle.tcc_steal.specs.private.Working.{KnowsMore, IsSeat, HasEnded, whole_row, IsSearched, AreSearches, rows_of, CameBack, IsFirstBack}
-use Rattle.tcc_steal.specs.declared.searched.Searched.{Searched}
+use Rattle.tcc_steal.specs.declared.searched.EndedSearch.{EndedSearch}
 use Rattle.tcc_steal.specs.declared.found.Found.{Found}
 use Rattle.tcc_steal.proofs.Floor.{floor_attained}
 use Rattle.tcc_steal.proofs.Slots.{knows_more}
@@ -34,44 +34,44 @@ use Rattle.tcc_steal.proofs.Rows.{drop_whole, in_whole, length_whole}
 -- ---- searches in order
 
 module _ (t : Tables) (workers : ℕ) where
-  searches_at : (known : Known) (s : ℕ) (es : List Searched) → AreSearches t workers known s es → (k : ℕ) (d : Searched) → k < length es
+  searches_at : (known : Known) (s : ℕ) (es : List EndedSearch) → AreSearches t workers known s es → (k : ℕ) (d : EndedSearch) → k < length es
       → ((get_or es k d).start ≡ s + k) × IsSearched t workers known (get_or es k d)
   searches_at known s [] are k d l = absurd (omega arith)
   searches_at known s (e ∷ es) are zero d l = (omega (arith, are.0), are.1)
   searches_at known s (e ∷ es) are (suc k) d l = let w = searches_at known (s + 1) es are.2 k d (omega arith) in (omega (arith, w.0), w.1)
 
-  searches_know : {old new : Known} → KnowsMore old new → (s : ℕ) (es : List Searched) → AreSearches t workers old s es → AreSearches t workers new s es
+  searches_know : {old new : Known} → KnowsMore old new → (s : ℕ) (es : List EndedSearch) → AreSearches t workers old s es → AreSearches t workers new s es
   searches_know more s [] are = tt
   searches_know more s (e ∷ es) are = (are.0, knows_more more are.1, searches_know more (s + 1) es are.2)
 
-  searches_last : {known : Known} (e : Searched) → IsSearched t workers known e → (s : ℕ) (es : List Searched) → AreSearches t workers known s es
+  searches_last : {known : Known} (e : EndedSearch) → IsSearched t workers known e → (s : ℕ) (es : List EndedSearch) → AreSearches t workers known s es
       → e.start ≡ s + length es → AreSearches t workers known s (es ++ e ∷ [])
   searches_last e is s [] are start = (omega (arith, start), is, tt)
   searches_last e is s (x ∷ es) are start = (are.0, are.1, searches_last e is (s + 1) es are.2 (omega (arith, start)))
 
-  -- one search more, made when more was known
-  pub searches_more : {old new : Known} → KnowsMore old new → (es : List Searched) → AreSearches t workers old 0 es → (e : Searched)
+  -- one more search, made when more was known
+  pub searches_more : {old new : Known} → KnowsMore old new → (es : List EndedSearch) → AreSearches t workers old 0 es → (e : EndedSearch)
       → IsSearched t workers new e → e.start ≡ length es → AreSearches t workers new 0 (es ++ e ∷ [])
   searches_more more es are e is start = searches_last e is 0 es (searches_know more 0 es are) (omega (arith, start))
 
-  each_start : (known : Known) (s : ℕ) (es : List Searched) → AreSearches t workers known s es → (k d : ℕ) → k < length es
-      → get_or (map (λ (e : Searched). e.start) es) k d ≡ s + k
+  each_start : (known : Known) (s : ℕ) (es : List EndedSearch) → AreSearches t workers known s es → (k d : ℕ) → k < length es
+      → get_or (map (λ (e : EndedSearch). e.start) es) k d ≡ s + k
   each_start known s [] are k d l = absurd (omega arith)
   each_start known s (e ∷ es) are zero d l = omega (arith, are.0)
   each_start known s (e ∷ es) are (suc k) d l = omega (arith, each_start known (s + 1) es are.2 k d (omega arith))
 
-  starts_in : (known : Known) (es : List Searched) → AreSearches t workers known 0 es → (n : ℕ) → length es ≡ n
-      → IsNumbering n (map (λ (e : Searched). e.start) es)
+  starts_in : (known : Known) (es : List EndedSearch) → AreSearches t workers known 0 es → (n : ℕ) → length es ≡ n
+      → IsNumbering n (map (λ (e : EndedSearch). e.start) es)
   starts_in known es are n long = record {
     below = λ k d inside. omega (arith, at k d (omega (arith, inside, wide)), inside, wide);
     each = λ a low. (a, omega (arith, wide), at a a (omega arith));
     once = λ i k less inside same. absurd (omega (arith, at i 0 (omega (arith, less, inside, wide)), at k 0 (omega (arith, inside, wide)), less, same));
   }
     where
-      wide : length (map (λ (e : Searched). e.start) es) ≡ length es
-      wide = length-map es (λ (e : Searched). e.start)
+      wide : length (map (λ (e : EndedSearch). e.start) es) ≡ length es
+      wide = length-map es (λ (e : EndedSearch). e.start)
 
-      at : (k d : ℕ) → k < length es → get_or (map (λ (e : Searched). e.start) es) k d ≡ k
+      at : (k d : ℕ) → k < length es → get_or (map (λ (e : EndedSearch). e.start) es) k d ≡ k
       at k d l = omega (arith, each_start known 0 es are k d l)
 
 -- ---- the share of all
@@ -80,31 +80,31 @@ abbrev pub stop_of : ℕ → Option ℕ → Stop
 stop_of sight None = Cut (cap_of sight)
 stop_of sight (Some c) = Returned c
 
-abbrev pub finished_of : Known → Searched → Finished
+abbrev pub finished_of : Known → EndedSearch → Finished
 finished_of known e =
     record { start = e.start; row = whole_row e.start e.row; stop = stop_of known.sight (in_row (whole_row e.start e.row) e.start) }
 
-abbrev pub share_of : Known → List Searched → Share
+abbrev pub share_of : Known → List EndedSearch → Share
 share_of known es = record { finished = map (finished_of known) es; offers = known.offers; sight = cap_of known.sight }
 
 not_above_itself : (o : Option ℕ) → IsNotAbove o o
 not_above_itself None = tt
 not_above_itself (Some c) = omega arith
 
-stopped : {j : Judged} {known : Known} {s : ℕ} {row : List (Option ℕ)} (es : List Searched) → HasEnded j known s row → (o : Option ℕ) → in_row row s ≡ o
+stopped : {j : Judged} {known : Known} {s : ℕ} {row : List (Option ℕ)} (es : List EndedSearch) → HasEnded j known s row → (o : Option ℕ) → in_row row s ≡ o
     → IsStopped j (share_of known es) s row (stop_of known.sight o)
 stopped {known = known} es ended None out = (not_above_itself (cap_of known.sight), out, ended.cut out)
 stopped es ended (Some c) back = (back, ended.returned c back)
 
-finished_is : {j : Judged} {t : Tables} {workers : ℕ} {known : Known} (es : List Searched) (e : Searched) → IsPricesOf j t → IsSearched t workers known e
+finished_is : {j : Judged} {t : Tables} {workers : ℕ} {known : Known} (es : List EndedSearch) (e : EndedSearch) → IsPricesOf j t → IsSearched t workers known e
     → IsFinished j (share_of known es) (finished_of known e)
 finished_is {j} es e priced is =
     let ended = is.done j priced in
     record { row = ended.exact; stopped = stopped es ended (in_row (whole_row e.start e.row) e.start) refl }
 
 -- a fact of each search is one of each that is finished
-each_of : (t : Tables) (workers : ℕ) (known : Known) (P : Finished → Type 0) → ((e : Searched) → IsSearched t workers known e → P (finished_of known e))
-    → (s : ℕ) (es : List Searched) → AreSearches t workers known s es → All P (map (finished_of known) es)
+each_of : (t : Tables) (workers : ℕ) (known : Known) (P : Finished → Type 0) → ((e : EndedSearch) → IsSearched t workers known e → P (finished_of known e))
+    → (s : ℕ) (es : List EndedSearch) → AreSearches t workers known s es → All P (map (finished_of known) es)
 each_of t workers known P holds s [] are = All-nil P
 each_of t workers known P holds s (e ∷ es) are =
     All-cons P (finished_of known e) (map (finished_of known) es) (holds e are.1) (each_of t workers known P holds (s + 1) es are.2)
@@ -112,7 +112,7 @@ each_of t workers known P holds s (e ∷ es) are =
 one_share : (P : Share → Type 0) (share : Share) → P share → All P (share ∷ [])
 one_share P share holds = All-cons P share [] holds (All-nil P)
 
-starts_are : (known : Known) (es : List Searched) → map (λ f. f.start) (map (finished_of known) es) ≡ map (λ (e : Searched). e.start) es
+starts_are : (known : Known) (es : List EndedSearch) → map (λ f. f.start) (map (finished_of known) es) ≡ map (λ (e : EndedSearch). e.start) es
 starts_are known [] = refl
 starts_are known (e ∷ es) = ap (λ (l : List ℕ). e.start ∷ l) (starts_are known es)
 
@@ -126,36 +126,36 @@ map_at f (x ∷ xs) (suc i) d e l = map_at f xs i d e (omega arith)
 no_other : (a b : ℕ) → Some a ≡ Some b → a ≡ b
 no_other a b e = cc
 
-pub row_here : (es : List Searched) (k : ℕ) (e : Searched) → k < length es → e ≡ get_or es k e → row_of (rows_of es) k ≡ e.row
-row_here es k e l here = map_at (λ (x : Searched). x.row) es k [] e l ∙ ap (λ (x : Searched). x.row) (sym here)
+pub row_here : (es : List EndedSearch) (k : ℕ) (e : EndedSearch) → k < length es → e ≡ get_or es k e → row_of (rows_of es) k ≡ e.row
+row_here es k e l here = map_at (λ (x : EndedSearch). x.row) es k [] e l ∙ ap (λ (x : EndedSearch). x.row) (sym here)
 
 -- searches of all starts, in order, which settle at a word
-record AreSettled (j : Judged) (t : Tables) (workers : ℕ) (known : Known) (es : List Searched) (word : Option ℕ) : Type 0 where
+record AreSettled (j : Judged) (t : Tables) (workers : ℕ) (known : Known) (es : List EndedSearch) (word : Option ℕ) : Type 0 where
   priced : IsPricesOf j t
   searches : AreSearches t workers known 0 es
   long : length es ≡ length t.prices
   settle : SettleAt j (share_of known es ∷ []) word
 
--- what is told of searches, where a least cycle costs so much
-pub record IsTold (es : List Searched) (least : Option ℕ) (found : Found) : Type 0 where
+-- what is returned about searches, where this is the cost of a least cycle
+pub record IsTold (es : List EndedSearch) (least : Option ℕ) (found : Found) : Type 0 where
   pub least_is : found.least ≡ least
   pub first : IsFirstBack es least found.first
-  pub rows : found.rows.items ≡ map (λ (e : Searched). map (capped least) e.row) es
-  pub starts : found.starts.items ≡ map (λ (e : Searched). (e.worker, e.start)) es
+  pub rows : found.rows.items ≡ map (λ (e : EndedSearch). map (capped least) e.row) es
+  pub starts : found.starts.items ≡ map (λ (e : EndedSearch). (e.worker, e.start)) es
 
 -- the search from a start
-record IsAt (j : Judged) (known : Known) (es : List Searched) (s : ℕ) : Type 0 where
-  search : Searched
-  here : (d : Searched) → get_or es s d ≡ search
+record IsAt (j : Judged) (known : Known) (es : List EndedSearch) (s : ℕ) : Type 0 where
+  search : EndedSearch
+  here : (d : EndedSearch) → get_or es s d ≡ search
   start : search.start ≡ s
   ended : HasEnded j known s (whole_row s search.row)
   row_is : row_of (rows_of es) s ≡ search.row
 
-module _ {j : Judged} {t : Tables} {workers : ℕ} {known : Known} {es : List Searched} {word : Option ℕ} (all : AreSettled j t workers known es word) where
-  ended_at : (s : ℕ) (e : Searched) → s < length es → get_or es s e ≡ e → (e.start ≡ s) × HasEnded j known s (whole_row s e.row)
+module _ {j : Judged} {t : Tables} {workers : ℕ} {known : Known} {es : List EndedSearch} {word : Option ℕ} (all : AreSettled j t workers known es word) where
+  ended_at : (s : ℕ) (e : EndedSearch) → s < length es → get_or es s e ≡ e → (e.start ≡ s) × HasEnded j known s (whole_row s e.row)
   ended_at s e l here =
       let w = searches_at t workers known 0 es all.searches s e l in
-      let start : e.start ≡ s = subst (λ (x : Searched). x.start ≡ s) here (w.0 ∙ zero_more s) in
+      let start : e.start ≡ s = subst (λ (x : EndedSearch). x.start ≡ s) here (w.0 ∙ zero_more s) in
       let is : IsSearched t workers known e = subst (IsSearched t workers known) here w.1 in
       (start, subst (λ (k : ℕ). HasEnded j known k (whole_row k e.row)) start (is.done j all.priced))
     where
@@ -165,20 +165,20 @@ module _ {j : Judged} {t : Tables} {workers : ℕ} {known : Known} {es : List Se
   at_start : (s : ℕ) → s < length es → IsAt j known es s
   at_start s l = go (first_of es l)
     where
-      any_default : (xs : List Searched) (k : ℕ) (d e : Searched) → k < length xs → get_or xs k d ≡ get_or xs k e
+      any_default : (xs : List EndedSearch) (k : ℕ) (d e : EndedSearch) → k < length xs → get_or xs k d ≡ get_or xs k e
       any_default [] k d e l = absurd (omega arith)
       any_default (x ∷ xs) zero d e l = refl
       any_default (x ∷ xs) (suc k) d e l = any_default xs k d e (omega arith)
 
-      first_of : (xs : List Searched) → s < length xs → Searched
+      first_of : (xs : List EndedSearch) → s < length xs → EndedSearch
       first_of [] l = absurd (omega arith)
       first_of (x ∷ xs) l = x
 
-      go : Searched → IsAt j known es s
+      go : EndedSearch → IsAt j known es s
       go d =
-          let e : Searched = get_or es s d in
+          let e : EndedSearch = get_or es s d in
           let w = ended_at s e l (any_default es s e d l) in
-          record { search = e; here = λ o. any_default es s o d l; start = w.0; ended = w.1; row_is = map_at (λ (x : Searched). x.row) es s [] d l }
+          record { search = e; here = λ o. any_default es s o d l; start = w.0; ended = w.1; row_is = map_at (λ (x : EndedSearch). x.row) es s [] d l }
 
   back_row : (s c : ℕ) → s < length es → CameBack es s c → IsDistance j s s c
   back_row s c l back =
@@ -197,7 +197,7 @@ module _ {j : Judged} {t : Tables} {workers : ℕ} {known : Known} {es : List Se
       same : (c b : ℕ) → Returned c ≡ Returned b → c ≡ b
       same c b e = cc
 
-  all_of : (P : Finished → Type 0) → EachFinished (share_of known es ∷ []) P → (s : ℕ) (e : Searched) → s < length es → ((d : Searched) → get_or es s d ≡ e)
+  all_of : (P : Finished → Type 0) → EachFinished (share_of known es ∷ []) P → (s : ℕ) (e : EndedSearch) → s < length es → ((d : EndedSearch) → get_or es s d ≡ e)
       → P (finished_of known e)
   all_of P each s e l here =
       let in_share : All P (map (finished_of known) es) = All-head (λ (share : Share). All P share.finished) (share_of known es) [] each in
@@ -246,11 +246,11 @@ module _ {j : Judged} {t : Tables} {workers : ℕ} {known : Known} {es : List Se
   )
 
   -- rows of them, capped at the word
-  module _ {rows : List (List (Option ℕ))} (are : rows ≡ map (λ (e : Searched). map (capped word) e.row) es) where
+  module _ {rows : List (List (Option ℕ))} (are : rows ≡ map (λ (e : EndedSearch). map (capped word) e.row) es) where
     rows_at : (s : ℕ) → s < length es → (w : IsAt j known es s) → row_of rows s ≡ map (capped word) w.search.row
     rows_at s l w =
         ap (λ (r : List (List (Option ℕ))). row_of r s) are
-        ∙ (map_at (λ (e : Searched). map (capped word) e.row) es s [] w.search l ∙ ap (λ (e : Searched). map (capped word) e.row) (w.here w.search))
+        ∙ (map_at (λ (e : EndedSearch). map (capped word) e.row) es s [] w.search l ∙ ap (λ (e : EndedSearch). map (capped word) e.row) (w.here w.search))
 
     exact_at : (s v : ℕ) → s ≤ v → v < count j.history → IsCappedDistance j s v word (slice_index_or (row_of rows s) (v - s) None)
     exact_at s v up below =
@@ -290,7 +290,7 @@ module _ {j : Judged} {t : Tables} {workers : ℕ} {known : Known} {es : List Se
         P : Finished → Type 0
         P f = row_of rows f.start ≡ map (capped word) (drop f.start f.row)
 
-  numbered : IsNumbering (count j.history) (map (λ (e : Searched). e.start) es)
+  numbered : IsNumbering (count j.history) (map (λ (e : EndedSearch). e.start) es)
   numbered = starts_in t workers known es all.searches (count j.history) (omega (arith, all.long, all.priced.prices.long))
 
   found_is : {found : Found} → IsTold es word found → IsFound j workers found
@@ -301,7 +301,7 @@ module _ {j : Judged} {t : Tables} {workers : ℕ} {known : Known} {es : List Se
         omega (
           arith,
           ap (λ (r : List (List (Option ℕ))). length r) told.rows,
-          length-map es (λ (e : Searched). map (capped word) e.row),
+          length-map es (λ (e : EndedSearch). map (capped word) e.row),
           all.long,
           all.priced.prices.long,
         );
@@ -313,19 +313,19 @@ module _ {j : Judged} {t : Tables} {workers : ℕ} {known : Known} {es : List Se
     by = rw told.starts (numbers 0 es all.searches);
   }
     where
-      seconds : (xs : List Searched) → map (λ (p : ℕ × ℕ). p.1) (map (λ (e : Searched). (e.worker, e.start)) xs) ≡ map (λ (e : Searched). e.start) xs
+      seconds : (xs : List EndedSearch) → map (λ (p : ℕ × ℕ). p.1) (map (λ (e : EndedSearch). (e.worker, e.start)) xs) ≡ map (λ (e : EndedSearch). e.start) xs
       seconds [] = refl
       seconds (e ∷ xs) = ap (λ (l : List ℕ). e.start ∷ l) (seconds xs)
 
-      numbers : (s : ℕ) (xs : List Searched) → AreSearches t workers known s xs
-          → All (λ (p : ℕ × ℕ). p.0 < workers) (map (λ (e : Searched). (e.worker, e.start)) xs)
+      numbers : (s : ℕ) (xs : List EndedSearch) → AreSearches t workers known s xs
+          → All (λ (p : ℕ × ℕ). p.0 < workers) (map (λ (e : EndedSearch). (e.worker, e.start)) xs)
       numbers s [] are = All-nil (λ (p : ℕ × ℕ). p.0 < workers)
       numbers s (e ∷ xs) are =
-          All-cons (λ (p : ℕ × ℕ). p.0 < workers) (e.worker, e.start) (map (λ (e : Searched). (e.worker, e.start)) xs) are.1.worker (numbers (s + 1) xs are.2)
+          All-cons (λ (p : ℕ × ℕ). p.0 < workers) (e.worker, e.start) (map (λ (e : EndedSearch). (e.worker, e.start)) xs) are.1.worker (numbers (s + 1) xs are.2)
 
 -- ---- at the last word of the bound
 
--- a number of 64 bits that is at most another is not above it, none being the greatest
+-- a number of 64 bits that is at most another is not above it, where the greatest means none
 not_above : (w n : ℕ) → w ≤ n → n < 18446744073709551616 → IsNotAbove (cap_of w) (cap_of n)
 not_above w n low small =
     cond_both (n == 18446744073709551615) None (Some n) (λ o. IsNotAbove (cap_of w) o) (λ e. tt) (λ e. under (eqb-false n 18446744073709551615 e))
@@ -353,7 +353,7 @@ cap_some : (w : ℕ) → w ≢ 18446744073709551615 → cap_of w ≡ Some w
 cap_some w other = cond_both (w == 18446744073709551615) None (Some w) (λ o. o ≡ Some w) (λ e. absurd (other (eqb-true w 18446744073709551615 e))) (λ e. refl)
 
 -- one worker's or many workers' searches of all starts, in order, and the last word of the bound
-pub record AreClosed (j : Judged) (t : Tables) (workers : ℕ) (id : BoundId) (seat : Seated) (es : List Searched) (word : ℕ) : Type 0 where
+pub record AreClosed (j : Judged) (t : Tables) (workers : ℕ) (id : BoundId) (seat : Seated) (es : List EndedSearch) (word : ℕ) : Type 0 where
   pub priced : IsPricesOf j t
   pub at : IsSeat t id seat
   pub searches : AreSearches t workers seat.known 0 es
@@ -362,13 +362,13 @@ pub record AreClosed (j : Judged) (t : Tables) (workers : ℕ) (id : BoundId) (s
   pub floor : seat.known.floor ≤ word
   pub small : word < 18446744073709551616
 
-pub closed_by : {j : Judged} {t : Tables} {workers : ℕ} {id : BoundId} {seat : Seated} {es : List Searched} {word : ℕ} → IsPricesOf j t → IsSeat t id seat
+pub closed_by : {j : Judged} {t : Tables} {workers : ℕ} {id : BoundId} {seat : Seated} {es : List EndedSearch} {word : ℕ} → IsPricesOf j t → IsSeat t id seat
     → AreSearches t workers seat.known 0 es → length es ≡ length t.prices → IsAtMostAll word seat.known → seat.known.floor ≤ word
     → word < 18446744073709551616 → AreClosed j t workers id seat es word
 closed_by priced at searches long most floor small =
     record { priced = priced; at = at; searches = searches; long = long; most = most; floor = floor; small = small }
 
-module _ {j : Judged} {t : Tables} {workers : ℕ} {id : BoundId} {seat : Seated} {es : List Searched} {word : ℕ}
+module _ {j : Judged} {t : Tables} {workers : ℕ} {id : BoundId} {seat : Seated} {es : List EndedSearch} {word : ℕ}
     (closed : AreClosed j t workers id seat es word) where
   settled : AreSettled j t workers seat.known es (cap_of word)
   settled = record { priced = closed.priced; searches = closed.searches; long = closed.long; settle = settle }
@@ -376,7 +376,7 @@ module _ {j : Judged} {t : Tables} {workers : ℕ} {id : BoundId} {seat : Seated
       share : Share
       share = share_of seat.known es
 
-      starts : starts_of (share ∷ []) ≡ map (λ (e : Searched). e.start) es
+      starts : starts_of (share ∷ []) ≡ map (λ (e : EndedSearch). e.start) es
       starts = append-nil (map (λ f. f.start) (map (finished_of seat.known) es)) ∙ starts_are seat.known es
 
       settle : SettleAt j (share ∷ []) (cap_of word)

@@ -1,4 +1,4 @@
--- Each step on the deque of starts keeps the rule, and what it tells follows from the rule.
+-- Each step on the deque of starts keeps the rule, and what it reports follows from the rule.
 use Rattle.std.proofs.Common.{◌≡◌, ◌≢◌, ◌<◌, ◌+◌, ℕ, zero, suc, true, List, [], ◌∷◌, ◌++◌, length}
 use Rattle.std.proofs.Common.{length-set, length-append, set, nat_lt, if◌then◌else◌, refl, sym, ap, subst}
 use Rattle.std.proofs.Common.{⊎_elim, arith}
@@ -91,7 +91,7 @@ pushes pass view x may_push live is items views h at =
       refl,
     )
 
--- a number more was taken
+-- one more number was taken
 one_more : (x first : ℕ) → (if nat_lt x first then 1 else 0) + (times x (first ∷ [])) ≡ (if nat_lt x (first + 1) then 1 else 0)
 one_more x first = grind (arith, nat_tests)
 

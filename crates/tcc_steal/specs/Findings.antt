@@ -1,4 +1,4 @@
--- What a search by many workers finds.
+-- The result of a search by many workers.
 use Rattle.std.specs.Prelude.{ℕ, ◌<◌, ◌≤◌, ◌≡◌, ◌-◌, List, length, map, drop, All, Option, None, Some, slice_index_or}
 use Rattle.tcc_reads.specs.History.{count}
 use Rattle.tcc_graph.specs.Levels.{Judged}
@@ -19,9 +19,9 @@ IsFirst j None first = first ≡ None
 IsFirst j (Some b) None = ⊥
 IsFirst j (Some b) (Some s) = (s < count j.history) × IsDistance j s s b × ((t : ℕ) → t < s → IsDistance j t t b → ⊥)
 
--- the answer of a search by so many workers
+-- the result of a search by this many workers
 pub record IsFound (j : Judged) (workers : ℕ) (found : Found) : Type 0 where
-  -- what the workers brought settles at `least`
+  -- what the workers returned settles at `least`
   pub shares : List Share
   pub settle : SettleAt j shares found.least
   -- a row for each start: that of its search from the start upward, capped at `least` where there is one
@@ -31,6 +31,6 @@ pub record IsFound (j : Judged) (workers : ℕ) (found : Found) : Type 0 where
   pub wide : (s : ℕ) → s < count j.history → length (row_of found.rows.items s) ≡ count j.history - s
   pub exact : (s : ℕ) (v : ℕ) → s ≤ v → v < count j.history → IsCappedDistance j s v found.least (slice_index_or (row_of found.rows.items s) (v - s) None)
   pub first : IsFirst j found.least found.first
-  -- each start stands once, beside one of the workers
+  -- each start is there once, with one of the workers
   pub once : IsNumbering (count j.history) (map (λ p. p.1) found.starts.items)
   pub by : All (λ p. p.0 < workers) found.starts.items

@@ -1,4 +1,4 @@
--- What a step and a run of the machine answer.
+-- The results of a step and of a run of the machine.
 use Rattle.std.specs.Prelude.{◌≡◌, List, take, slice_get, Some, Result, Ok, Err}
 use Rattle.tcc_graph.specs.Levels.{Judged}
 use Rattle.tcc_steal.specs.Steps.{IsEnabled, Runs}
@@ -8,7 +8,7 @@ use Rattle.tcc_steal.specs.declared.event.StepFault.{StepFault}
 use Rattle.tcc_steal.specs.declared.event.StepFault.TheVariants as fault
 use Rattle.tcc_steal.specs.declared.event.RunFault.{RunFault}
 
--- a step is done where the event was enabled, and refused where it was not or memory was wanted; then nothing changes
+-- a step is done where the event was enabled; it is refused where it was not or memory was refused, and then nothing changes
 abbrev pub Answers : {U : Type 0} → Machine → Event → Result U StepFault → Machine → Type 0
 Answers old e (Ok done) new = IsEnabled (world_of old) e
 Answers old e (Err fault.NotEnabled) new = (world_of new ≡ world_of old) × (IsEnabled (world_of old) e → ⊥)

@@ -14,8 +14,8 @@ abbrev pub IsLeastOf : Option ℕ → List ℕ → Type 0
 IsLeastOf None offers = offers ≡ []
 IsLeastOf (Some b) offers = Contains offers b × All (λ c. b ≤ c) offers
 
--- a search that goes on has its start outside its row; one that has returned has it there at its cost; one that was cut
--- has nothing outside its row within a cap that is not below the worker's sight
+-- A search that goes on has its start outside its row. One that has returned has it there at its cost. One that was cut has nothing outside
+-- its row within a cap that is not below the worker's sight.
 abbrev pub IsAtStage : Judged → Share → ℕ → List (Option ℕ) → Stage → Type 0
 IsAtStage j share s row stage.Open = in_row row s ≡ None
 IsAtStage j share s row (stage.Returned c) = in_row row s ≡ Some c
@@ -31,15 +31,14 @@ abbrev pub IsBegunIfAny : Judged → Share → Option Searching → Type 0
 IsBegunIfAny j share None = Unit {0}
 IsBegunIfAny j share (Some search) = IsBegun j share search
 
--- a worker, where this is the word: the word is not above its sight, and the rows of its searches are exact and closed,
--- be they finished or not
+-- A worker, where this is the word: the word is not above its sight, and the rows of its searches, finished or not, are exact and closed.
 pub record IsWorking (j : Judged) (word : Option ℕ) (worker : Worker) : Type 0 where
   pub below_sight : IsNotAbove word worker.share.sight
   pub finished : All (IsFinished j worker.share) worker.share.finished
   pub search : IsBegunIfAny j worker.share worker.search
 
--- the word is the least offer, each offer is the cost of a cycle, the word is not above any sight, every row is exact
--- and closed, and every start stands once among those left, held and finished
+-- The word is the least offer, each offer is the cost of a cycle, and the word is not above any sight. Every row is exact and closed, and
+-- every start is once among those left, held and finished.
 pub record IsSound (j : Judged) (world : World) : Type 0 where
   pub least : IsLeastOf world.word (offers_of world)
   pub offered : All (IsCycleCost j) (offers_of world)
@@ -51,6 +50,6 @@ abbrev pub IsSeed : Judged → Option ℕ → Type 0
 IsSeed j None = Unit {0}
 IsSeed j (Some seed) = IsCycleCost j seed
 
--- each of so many starts is finished
+-- each start below this count is finished
 abbrev pub AllFinished : ℕ → World → Type 0
 AllFinished starts world = (s : ℕ) → s < starts → Contains (starts_of (shares_of world)) s

@@ -23,15 +23,15 @@ HasReturned (stage.Offered d) c = d ≡ c
 HasReturned stage.Open c = ⊥
 HasReturned (stage.Cut cap) c = ⊥
 
--- how a search ended that has nothing more to do: it was cut, or it returned and its cost was offered
+-- how a search with nothing more to do ended: it was cut, or it returned and its cost was offered
 abbrev pub end_of : Stage → Option Stop
 end_of (stage.Offered c) = Some (Returned c)
 end_of (stage.Cut cap) = Some (Cut cap)
 end_of (stage.Returned c) = None
 end_of stage.Open = None
 
--- what each event needs: an idle worker and a start that is left; or a worker whose search is there, goes on, has
--- returned at the cost, or has nothing more to do
+-- What each event needs: an idle worker and a start that is left; or a worker whose search is there, goes on, has returned at the cost, or
+-- has nothing more to do.
 abbrev pub IsEnabled : World → Event → Type 0
 IsEnabled world (event.Take w s) = IsIdle world w × Contains world.left s
 IsEnabled world (event.Look w) = (search : Searching) × (search_of world w ≡ Some search)
@@ -100,8 +100,8 @@ abbrev pub Looks : World → ℕ → World → Type 0
 Looks old w new =
     (search : Searching) × (search_of old w ≡ Some search) × (new ≡ with_worker old w (seeing (worker_at old w) old.word))
 
--- of the transactions outside the row whose distance is at most the sight, any of the nearest joins the row; if it is
--- the start, the search has returned at its distance. Where there is none, it is cut at the sight
+-- Any of the nearest transactions outside the row, if its distance is at most the sight, joins the row. If it is the start, the search has
+-- returned at its distance. Where there is none, the search is cut at the sight.
 abbrev pub Grows : Judged → ℕ → Option ℕ → List (Option ℕ) → List (Option ℕ) → Stage → Type 0
 Grows j s sight old new stage.Open = (v : ℕ) × (distance : ℕ) × (v ≢ s) × JoinsNearest j s sight old new v distance
 Grows j s sight old new (stage.Returned distance) = JoinsNearest j s sight old new s distance

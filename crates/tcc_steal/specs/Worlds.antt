@@ -10,13 +10,12 @@ pub record Searching : Type 0 where
   pub row : List (Option ℕ)
   pub stage : Stage
 
--- a worker: its share, which is what it has finished, what it has offered and what it saw last; and at most one search
+-- a worker: its share, that is, what it has finished, what it has offered and what it saw last; and at most one search
 pub record Worker : Type 0 where
   pub share : Share
   pub search : Option Searching
 
--- a state of the machine: the word, which is a cost or none, the starts left, the offers with which it began, and the
--- workers
+-- A state of the machine: the word, which is a cost or none, the starts left, the offers with which it began, and the workers.
 pub record World : Type 0 where
   pub word : Option ℕ
   pub left : List ℕ
@@ -34,7 +33,7 @@ new_worker = record { share = no_share; search = None }
 abbrev pub worker_at : World → ℕ → Worker
 worker_at world w = slice_index_or world.workers w new_worker
 
--- the search of worker w; none where it is idle or not there
+-- the search of worker w; none where it is idle or doesn't exist
 abbrev pub search_of : World → ℕ → Option Searching
 search_of world w = (worker_at world w).search
 
@@ -51,24 +50,24 @@ start_of (Some search) = search.start ∷ []
 abbrev pub starts_with : Worker → List ℕ
 starts_with worker = start_of worker.search ++ map (λ f. f.start) worker.share.finished
 
--- all starts, be they left, held or finished
+-- all starts: left, held or finished
 abbrev pub all_starts : World → List ℕ
 all_starts world = world.left ++ flat_map starts_with world.workers
 
--- an offer that no worker made stands in a share of its own
+-- an offer that no worker made is in a share of its own
 abbrev pub seed_share : List ℕ → Share
 seed_share seeds = record { finished = []; offers = seeds; sight = None }
 
--- what the machine brings back
+-- the shares that the machine returns
 abbrev pub shares_of : World → List Share
 shares_of world = seed_share world.seeds ∷ map (λ worker. worker.share) world.workers
 
--- of a seed, if there is one, the list
+-- the seed as a list, empty if there is none
 abbrev pub seeds_of : Option ℕ → List ℕ
 seeds_of None = []
 seeds_of (Some seed) = seed ∷ []
 
--- the beginning: so many starts are left, and so many workers have done nothing; word and offers begin at the seed
+-- The beginning: this many starts are left, and this many workers have done nothing. Word and offers begin at the seed.
 abbrev pub first_world : ℕ → ℕ → Option ℕ → World
 first_world starts workers seed =
     record { word = seed; left = range_with_len 0 starts; seeds = seeds_of seed; workers = replicate workers new_worker }

@@ -1,5 +1,6 @@
-//! Pruning by a bound: one search to its end (Dijkstra's algorithm, as `tcc_core` has it), cut at the bound that all workers share.
-//! The cap is what the seat saw last, and the start stands outside the row. A look at the bound for 64 transactions that settle.
+//! Pruning by a bound: one search to its end (Dijkstra's algorithm, as `tcc_core` has it), cut at the bound that all
+//! workers share. The cap is what the seat saw last, and the start is outside the row. It looks at the bound once for 64
+//! transactions that settle.
 ghost use Rattle.std.specs.Prelude.{◌≡◌, ◌≤◌, length};
 ghost use Rattle.tcc_txn.specs.declared.limits.TheConstants.{MAX_COUNT};
 ghost use Rattle.tcc_graph.specs.Levels.{Judged};
@@ -11,10 +12,10 @@ use tcc_bound::{Bound, Seat};
 use tcc_core::{Search, Settled};
 use tcc_derive::Prices;
 
-/// After so many settled transactions a search looks at the bound again.
+/// After this many settled transactions a search looks at the bound again.
 const LOOK_AFTER: u32 = 64;
 
-/// Takes a search to its end: it comes back to its start, and the cost is offered; or nothing outside its row is within
+/// Takes a search to its end. It comes back to its start, and the cost is offered; or nothing outside its row is within
 /// what the seat saw last.
 pub(crate) fn run(search: &mut Search, prices: &Prices, bound: &Bound, seat: &mut Seat)
     requires prices { HasJudged prices.now }

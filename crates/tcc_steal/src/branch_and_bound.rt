@@ -1,7 +1,8 @@
-//! Branch and bound (Land and Doig, An automatic method of solving discrete programming problems, Econometrica 28, 1960) over all
-//! starts, in parallel: each start is a subproblem (Dijkstra's algorithm upward from it), the bound is the least cost offered so far,
-//! and a search is cut where nothing below the bound is left. No bound is below what a least cycle costs. N starts take N searches,
-//! shared out by work stealing (Blumofe and Leiserson, Scheduling multithreaded computations by work stealing, JACM 46, 1999).
+//! Branch and bound (Land and Doig, An automatic method of solving discrete programming problems, Econometrica 28, 1960)
+//! over all starts, in parallel. Each start is a subproblem (Dijkstra's algorithm upward from it), and the bound is the
+//! least cost offered so far. A search is cut where nothing below the bound is left. No bound is below the cost of a least
+//! cycle. N starts take N searches, shared out by work stealing (Blumofe and Leiserson, Scheduling multithreaded
+//! computations by work stealing, JACM 46, 1999).
 ghost use Rattle.std.specs.Prelude.{◌≡◌, ◌≢◌, ◌<◌, ◌^◌, ℕ, Some, length, map, min, unwrap_or, IfOk, IfSome};
 ghost use Rattle.tcc_graph.specs.Levels.{Judged};
 ghost use Rattle.tcc_derive.specs.Prices.{Tables, IsPricesOf};
@@ -13,7 +14,7 @@ ghost use Rattle.tcc_steal.specs.private.Working.{AreSearches, HasSeed, IsFirstB
 
 use crate::fork_join::shares_of_crew;
 use crate::merging::{gather, search_all};
-use crate::searched::Searched;
+use crate::searched::EndedSearch;
 use crate::worker::Worker;
 use crate::{AllStart, Crew, Found, Gate};
 use std::alloc::Global;
@@ -35,7 +36,7 @@ fn capped_row(row: PackedRow, cap: Option<u32>) -> PackedRow
 }
 
 /// The first of these searches that came back at this cost, by its index.
-fn first_back(searches: &[Searched], cost: u32) -> Option<u32>
+fn first_back(searches: &[EndedSearch], cost: u32) -> Option<u32>
     requires { length searches.now < 2 ^ 32 }
     ensures { IsFirstBack searches.now (Some cost) result }
 {
@@ -47,8 +48,8 @@ fn first_back(searches: &[Searched], cost: u32) -> Option<u32>
     None
 }
 
-/// What these searches, one of each start in order, have found, where a least cycle costs so much.
-fn found(alloc: Global, least: Option<u32>, searches: Vec<Searched>) -> Result<Found, NoMemory>
+/// What these searches, one from each start in order, have found, where `least` is the cost of a least cycle.
+fn found(alloc: Global, least: Option<u32>, searches: Vec<EndedSearch>) -> Result<Found, NoMemory>
     requires { length searches.items < 2 ^ 32 }
     ensures least { IfOk result (λ found. found.least ≡ least) }
     ensures first { IfOk result (λ found. IsFirstBack searches.items least found.first) }
@@ -97,8 +98,8 @@ fn offer_seed(bound: &Bound, seat: &mut Seat, seed: Option<u32>)
     }
 }
 
-/// Searches from every start by so many workers, each in a thread of its own; by one worker in the caller's thread.
-/// The gate is called before each start.
+/// Searches from every start by `workers` workers, each in a thread of its own; a single worker searches in the caller's
+/// thread. The gate is called before each start.
 pub fn search<R: Threads + Sync, G: Gate>(
     rt: &R,
     alloc: Global,
@@ -112,9 +113,9 @@ pub fn search<R: Threads + Sync, G: Gate>(
     search_with(rt, alloc, prices, None, workers, gate, &AllStart)
 }
 
-/// Searches from every start as `search` does, by worker 0 and those of 1 and upward that the crew starts. A seed is the cost
-/// of some cycle, and is offered before any start is taken. A start that no worker came back with is searched by worker 0 at
-/// the end.
+/// Searches from every start as `search` does, by worker 0 and those of 1 and upward that the crew starts. A seed is the
+/// cost of some cycle, and is offered before any start is taken. Worker 0 searches at the end from each start that no
+/// worker returned.
 pub fn search_with<R: Threads + Sync, G: Gate, C: Crew>(
     rt: &R,
     alloc: Global,
@@ -131,7 +132,7 @@ pub fn search_with<R: Threads + Sync, G: Gate, C: Crew>(
     search_by(rt, alloc, prices, seed, workers.count(), gate, crew)
 }
 
-/// What `search_with` answers, by so many workers. The floor of the bound is what a least cycle costs.
+/// The result of `search_with`, by `workers` workers. The floor of the bound is the cost of a least cycle.
 fn search_by<R: Threads + Sync, G: Gate, C: Crew>(
     rt: &R,
     alloc: Global,

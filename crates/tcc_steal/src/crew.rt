@@ -1,7 +1,7 @@
 //! Which thieves start, and when they end.
 
-/// Says of each thief whether it is started, and after how many retries in a row it ends. Worker 0, which owns the deque,
-/// always starts.
+/// Decides for each thief whether it is started, and after how many retries in a row it ends. Worker 0, which owns the
+/// deque, always starts.
 pub trait Crew: Sync {
     fn starts(&self, worker: u32) -> bool;
 

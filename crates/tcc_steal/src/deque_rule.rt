@@ -1,5 +1,5 @@
 //! The rule of the work-stealing deque of starts (Chase and Lev, Dynamic circular work-stealing deque, SPAA 2005, as
-//! `crossbeam_deque` has it), and what each step on it tells. Each push, pop and steal is one step.
+//! `crossbeam_deque` has it), and what each step on it reports. Each push, pop and steal is one step.
 use crate::deque_view::PassView;
 use crossbeam_deque::protocol::{Outcome, Protocol, Split};
 
@@ -26,9 +26,9 @@ impl Outcome<u32, PassView> for Pushed {
 }
 
 /// The pop or the steal of a start.
-pub struct Took;
+pub struct PopOrSteal;
 
-impl Outcome<u32, PassView> for Took {
+impl Outcome<u32, PassView> for PopOrSteal {
     ghost use Rattle.tcc_steal.specs.private.StartQueues.{Takes};
 
     ghost then = { Takes };

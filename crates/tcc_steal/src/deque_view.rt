@@ -1,4 +1,4 @@
-//! What the rule of the deque of starts keeps of each pass. No value of the type is made: it exists in proofs alone.
+//! What the rule of the deque of starts keeps of each pass. No value of the type is made: it exists only in proofs.
 use std::collections::LinkedList;
 
 /// The view of one pass.
@@ -7,7 +7,7 @@ pub struct PassView {
     pub may_push: bool,
     /// It was handed out.
     pub live: bool,
-    /// So many starts were pushed: all the numbers below it.
+    /// How many starts were pushed: all the numbers below it.
     pub pushed: u64,
     /// The starts that it took.
     pub starts: LinkedList<u32>,

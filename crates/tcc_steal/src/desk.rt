@@ -1,4 +1,4 @@
-//! What one worker has before it.
+//! The state of one worker.
 ghost use Rattle.std.specs.Prelude.{◌≡◌, ℕ, [], length, None};
 ghost use Rattle.tcc_graph.specs.Levels.{Judged};
 ghost use Rattle.tcc_derive.specs.Prices.{IsPricesOf};
@@ -17,9 +17,9 @@ pub struct Begun {
     pub stage: Stage,
 }
 
-/// What a worker saw last, what it offered, the searches that it has done with, and the one that it holds.
+/// What a worker saw last, what it offered, the searches that it has finished, and the one that it holds.
 #[derive(Drop)]
-pub struct Desk {
+pub struct WorkerState {
     pub sight: Option<u32>,
     pub offers: Vec<u32>,
     pub finished: Vec<Begun>,
@@ -55,15 +55,15 @@ impl Begun {
     }
 }
 
-impl Desk {
+impl WorkerState {
     /// A worker that has done nothing.
-    pub fn new(alloc: Global) -> Desk
+    pub fn new(alloc: Global) -> WorkerState
         ensures sight { result.sight ≡ None }
         ensures offers { result.offers.items ≡ [] }
         ensures finished { result.finished.items ≡ [] }
         ensures search { result.search ≡ None }
     {
-        Desk {
+        WorkerState {
             sight: None,
             offers: Vec::new(alloc),
             finished: Vec::new(alloc),

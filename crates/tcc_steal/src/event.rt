@@ -12,11 +12,11 @@ pub enum Event {
     Settle(u32),
     /// The worker offers the cost at which its search returned.
     Offer(u32, u32),
-    /// The worker has done with its start.
+    /// The worker is done with its start.
     End(u32),
 }
 
-/// Why an event did not happen; the world is then as it was.
+/// Why an event did not happen. The world is then as it was.
 #[derive(Clone, Copy, Debug, PartialEq, Eq, Error)]
 pub enum StepFault {
     /// The event is not enabled.

@@ -1,15 +1,15 @@
-//! Fork and join (Conway, A multiprocessor system design, AFIPS 1963): worker 0 and each thief in a thread of their own, over one deque
-//! of starts. All starts were pushed before any thief began, and each seat is one of the bound. A thread, a seat and a pass for each
-//! thief.
+//! Fork and join (Conway, A multiprocessor system design, AFIPS 1963): worker 0 and each thief in a thread of their own,
+//! over one deque of starts. All starts were pushed before any thief began, and each seat is one of the bound. Each thief
+//! takes a thread, a seat and a pass.
 ghost use Rattle.std.specs.Prelude.{◌≡◌, ◌<◌, ◌≤◌, ℕ, All, length, IfOk, OnOk};
 ghost use Rattle.crossbeam_deque.specs.Handles.{worker_deque, worker_flavor, worker_view, stealer_deque};
 ghost use Rattle.tcc_steal.specs.{private.StartQueues.IsTaker, Findings.HasJudged};
-ghost use Rattle.tcc_steal.specs.private.Working.{IsSeat, IsWorker, IsJob, AreThieves, AreJobs, AreJobsOf, AreShares, IsShare};
+ghost use Rattle.tcc_steal.specs.private.Working.{IsSeat, IsWorker, IsThiefInit, AreThieves, AreThiefInits, AreThiefInitsOf, AreShares, IsShare};
 ghost use Rattle.tcc_derive.specs.Prices.{Tables};
 
 use crate::deque::{Owner, Thief, fill, pass_for_thief};
 use crate::worker::Worker;
-use crate::worker_loop::{Hand, Job, Share, bring_back};
+use crate::worker_loop::{Share, ThiefInit, WorkSource, bring_back};
 use crate::{Crew, Gate};
 use std::alloc::Global;
 use std::thread;
@@ -39,18 +39,18 @@ fn jobs(
     owner: &mut Owner,
     thieves: &[u32],
     crew: &impl Crew,
-) -> Result<Vec<Job>, NoMemory>
+) -> Result<Vec<ThiefInit>, NoMemory>
     requires { seat.old.bound ≡ bound.now }
     ensures seat { seat.new ≡ seat.old }
     ensures owner { OnOk result ((worker_deque owner.new ≡ worker_deque owner.old) × (worker_flavor owner.new ≡ worker_flavor owner.old)) }
     ensures taker { (count : ℕ) → IsTaker count (worker_view owner.old) → OnOk result (IsTaker count (worker_view owner.new)) }
     ensures jobs { (t : Tables) → IsSeat t bound.now seat.old → IsTaker (length t.prices) (worker_view owner.old)
-        → IfOk result (λ jobs. AreJobs t bound.now (worker_deque owner.old) jobs.items) }
-    ensures numbers { (workers : ℕ) → AreThieves workers thieves.now → IfOk result (λ jobs. AreJobsOf workers jobs.items) }
+        → IfOk result (λ jobs. AreThiefInits t bound.now (worker_deque owner.old) jobs.items) }
+    ensures numbers { (workers : ℕ) → AreThieves workers thieves.now → IfOk result (λ jobs. AreThiefInitsOf workers jobs.items) }
 {
     let mut jobs = Vec::new(alloc);
     for number in thieves {
-        jobs.push(Job {
+        jobs.push(ThiefInit {
             worker: Worker {
                 number: *number,
                 seat: bound.split(seat),
@@ -63,7 +63,7 @@ fn jobs(
     Ok(jobs)
 }
 
-/// What the thieves bring back, each from a thread of its own.
+/// The results of the thieves, each from a thread of its own.
 fn thieves_shares<R: Threads + Sync, G: Gate>(
     rt: &R,
     alloc: Global,
@@ -71,28 +71,28 @@ fn thieves_shares<R: Threads + Sync, G: Gate>(
     bound: &Bound,
     gate: &G,
     thief: &Thief,
-    jobs: Vec<Job>,
+    jobs: Vec<ThiefInit>,
 ) -> Result<Vec<Result<Share, NoMemory>>, NoMemory>
     requires prices { HasJudged prices.now }
-    requires jobs { AreJobs prices.now bound.now (stealer_deque thief.now) jobs.items }
-    ensures { (workers : ℕ) → AreJobsOf workers jobs.items → IfOk result (λ shares. AreShares prices.now bound.now workers shares.items) }
+    requires jobs { AreThiefInits prices.now bound.now (stealer_deque thief.now) jobs.items }
+    ensures { (workers : ℕ) → AreThiefInitsOf workers jobs.items → IfOk result (λ shares. AreShares prices.now bound.now workers shares.items) }
 {
     let shares = thread::map_vec(
         rt,
         jobs,
-        &|job: Job| -> Result<Share, NoMemory>
-            requires { HasJudged prices.now × IsJob prices.now bound.now (stealer_deque thief.now) job }
+        &|job: ThiefInit| -> Result<Share, NoMemory>
+            requires { HasJudged prices.now × IsThiefInit prices.now bound.now (stealer_deque thief.now) job }
             ensures { (workers : ℕ) → job.worker.number < workers → IfOk result (IsShare prices.entry.now bound.entry.now workers) }
         {
-            let hand = Hand::Thief(thief, job.pass, job.retries);
+            let hand = WorkSource::Thief(thief, job.pass, job.retries);
             bring_back(alloc, prices, bound, gate, hand, job.worker)
         },
     )?;
     Ok(shares)
 }
 
-/// What so many workers bring back, worker 0 and the thieves that the crew starts; nothing where it starts none. Worker 0 pushes all
-/// starts before any thief begins.
+/// The results of the workers: worker 0 and the thieves that the crew starts, or nothing where it starts none. Worker 0
+/// pushes all starts before any thief begins.
 pub(crate) fn shares_of_crew<R: Threads + Sync, G: Gate, C: Crew>(
     rt: &R,
     alloc: Global,
@@ -129,12 +129,12 @@ pub(crate) fn shares_of_crew<R: Threads + Sync, G: Gate, C: Crew>(
                 × IsWorker prices.now bound.now worker }
             ensures { (workers : ℕ) → worker.number < workers → IfOk result (IsShare prices.entry.now bound.entry.now workers) }
         {
-            let hand = Hand::Owner(owner);
+            let hand = WorkSource::Owner(owner);
             bring_back(alloc, prices, bound, gate, hand, worker)
         },
         move || -> Result<Vec<Result<Share, NoMemory>>, NoMemory>
-            requires { HasJudged prices.now × AreJobs prices.now bound.now (stealer_deque thief.now) jobs.items }
-            ensures { (workers : ℕ) → AreJobsOf workers jobs.items
+            requires { HasJudged prices.now × AreThiefInits prices.now bound.now (stealer_deque thief.now) jobs.items }
+            ensures { (workers : ℕ) → AreThiefInitsOf workers jobs.items
                 → IfOk result (λ shares. AreShares prices.entry.now bound.entry.now workers shares.items) }
         { thieves_shares(rt, alloc, prices, bound, gate, thief, jobs) },
     );

@@ -1,6 +1,6 @@
 //! What is called before each start.
 
-/// Is called once before each start is searched, by whichever worker searches it. No promise rests on what it does.
+/// Is called once before each start is searched, by the worker that searches it. No contract depends on what it does.
 pub trait Gate: Sync {
     fn enter(&self, worker: u32, start: u32);
 }

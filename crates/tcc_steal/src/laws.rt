@@ -8,11 +8,11 @@ ghost use Rattle.tcc_steal.specs.Steps.{IsEnabled, Happens, Runs};
 ghost use Rattle.tcc_steal.specs.Soundness.{IsSound, IsSeed, AllFinished};
 ghost use Rattle.tcc_steal.specs.declared.event.Event.{Event};
 
-/// Whatever the interleaving, which is any list of events, each enabled when it comes, of any number of workers, begun
-/// with or without the cost of a cycle as a seed: the word is always the least offer and not above any sight, every row
-/// is exact and closed, and every start stands once among those left, held and finished. After a run that finishes every
-/// start the shares settle at the word: it is none exactly where there is no cycle, and else the cost of a least cycle.
-/// So every interleaving ends with the same word.
+/// An interleaving is any list of events, each enabled when it comes, of any number of workers, begun with or without the
+/// cost of a cycle as a seed. Whatever the interleaving, the word is always the least offer and not above any sight. Every
+/// row is exact and closed, and every start is once among those left, held and finished. After a run that finishes every
+/// start the shares settle at the word: it is none exactly where there is no cycle, and else the cost of a least cycle. So
+/// every interleaving ends with the same word.
 pub fn interleavings()
     ensures enabled { (j : Judged) (old new : World) (e : Event) → Happens j old e new → IsEnabled old e }
     ensures kept { (j : Judged) (workers : ℕ) (seed : Option ℕ) (events : List Event) (world : World) → IsSeed j seed

@@ -1,8 +1,8 @@
-//! The search from every start by many workers at one bound: what they bring back settles the cost of a least cycle.
+//! The search from every start by many workers at one bound: their results settle the cost of a least cycle.
 //!
-//! Worker 0 pushes all starts to a deque, from which it and the other workers, its thieves, take one at a time. After all have
-//! ended, worker 0 takes in what they bring back, and searches each start that none came back with. Beside it stands the machine of all
-//! interleavings of such searches (`World`), and the law that each settles the same cost.
+//! Worker 0 pushes all starts to a deque, from which it and the other workers, its thieves, take one at a time. After all
+//! have ended, worker 0 takes in their results, and searches from each start that none of them returned. Beside this is the
+//! machine of all interleavings of such searches (`World`), and the law that each settles the same cost.
 #![tactic(auto)]
 
 mod bounded_search;

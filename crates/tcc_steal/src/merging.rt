@@ -1,13 +1,13 @@
-//! The join of what many workers did: one search of each start, and one seat that knows all. Behind each share a slot has the first
-//! search of its start that came, and none of another, and the seat knows what the shares knew. N starts take N steps, and a search
-//! for each that no worker came back with.
+//! The join of what many workers did: one search of each start, and one seat that knows everything. After each share a slot
+//! has the first search of its start that came, and none of another, and the seat knows what the shares knew. N starts take
+//! N steps, and a search for each that no worker returned.
 ghost use Rattle.std.specs.Prelude.{◌≡◌, ◌<◌, ◌^◌, ℕ, length, replicate, None, IfOk, OnOk};
 ghost use Rattle.tcc_derive.specs.Prices.{Tables};
 ghost use Rattle.tcc_steal.specs.Findings.{HasJudged};
 ghost use Rattle.tcc_steal.specs.private.Working.{IsSeat, IsWorker, MayTakeIn, HasTakenIn, AreShares, AreKept, AreSearches};
 
 use crate::Gate;
-use crate::searched::Searched;
+use crate::searched::EndedSearch;
 use crate::worker::Worker;
 use crate::worker_loop::Share;
 use std::alloc::Global;
@@ -15,8 +15,8 @@ use tcc_bound::{Bound, Seat};
 use tcc_derive::Prices;
 use tcc_txn::NoMemory;
 
-/// Takes in a share: each search has the slot of its start, unless that is taken.
-fn take_in(bound: &Bound, seat: &mut Seat, slots: &mut [Option<Searched>], share: Share)
+/// Takes in a share: each search is put into the slot of its start, unless that is full.
+fn take_in(bound: &Bound, seat: &mut Seat, slots: &mut [Option<EndedSearch>], share: Share)
     requires { (t : Tables) × (workers : ℕ) × MayTakeIn t bound.now workers seat.old slots.old share }
     ensures long { length slots.new ≡ length slots.old }
     ensures taken { (t : Tables) (workers : ℕ) → MayTakeIn t bound.now workers seat.old slots.old share
@@ -33,7 +33,7 @@ fn take_in(bound: &Bound, seat: &mut Seat, slots: &mut [Option<Searched>], share
 }
 
 /// A slot for the search of each start, empty.
-fn empty_slots(alloc: Global, count: u32) -> Result<Vec<Option<Searched>>, NoMemory>
+fn empty_slots(alloc: Global, count: u32) -> Result<Vec<Option<EndedSearch>>, NoMemory>
     ensures { IfOk result (λ slots. slots.items ≡ replicate count None) }
 {
     let mut slots = Vec::with_capacity(alloc, count as usize)?;
@@ -50,7 +50,7 @@ pub(crate) fn gather(
     bound: &Bound,
     seat: &mut Seat,
     mut shares: Vec<Result<Share, NoMemory>>,
-) -> Result<Vec<Option<Searched>>, NoMemory>
+) -> Result<Vec<Option<EndedSearch>>, NoMemory>
     requires seat { IsSeat prices.now bound.now seat.old }
     requires shares { (workers : ℕ) × AreShares prices.now bound.now workers shares.items }
     ensures seat { OnOk result (IsSeat prices.now bound.now seat.new) }
@@ -65,15 +65,15 @@ pub(crate) fn gather(
     Ok(slots)
 }
 
-/// The searches from all starts, in order: those that stand in their slots, and the worker's own for those that do not.
+/// The searches from all starts, in order: those in their slots, and the worker's own for the others.
 pub(crate) fn search_all(
     alloc: Global,
     prices: &Prices,
     bound: &Bound,
     gate: &impl Gate,
     worker: &mut Worker,
-    mut slots: Vec<Option<Searched>>,
-) -> Result<Vec<Searched>, NoMemory>
+    mut slots: Vec<Option<EndedSearch>>,
+) -> Result<Vec<EndedSearch>, NoMemory>
     requires prices { HasJudged prices.now }
     requires worker { IsWorker prices.now bound.now worker.old }
     requires long { length slots.items ≡ length prices.now.prices }

@@ -3,15 +3,15 @@ ghost use Rattle.std.specs.Prelude.{◌≡◌, ◌↔◌, Some, true};
 
 use tcc_bits::PackedRow;
 
-/// A search that has ended: its row from the start upward, none for what stands outside, and the worker that made it.
+/// A search that has ended: its row from the start upward, none for what is outside, and the worker that made it.
 #[derive(Drop)]
-pub(crate) struct Searched {
+pub(crate) struct EndedSearch {
     pub start: u32,
     pub worker: u32,
     pub row: PackedRow,
 }
 
-impl Searched {
+impl EndedSearch {
     ghost use Rattle.std.specs.Prelude.{◌≡◌, ◌↔◌, Some, true};
     ghost use Rattle.tcc_core.specs.Rows.{in_row};
 

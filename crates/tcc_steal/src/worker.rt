@@ -8,7 +8,7 @@ ghost use Rattle.tcc_steal.specs.private.Working.{IsWorker, IsDone, KnowsMore};
 
 use crate::Gate;
 use crate::bounded_search::run;
-use crate::searched::Searched;
+use crate::searched::EndedSearch;
 use std::alloc::Global;
 use tcc_bits::PackedRow;
 use tcc_bound::{Bound, Seat};
@@ -16,8 +16,8 @@ use tcc_core::Search;
 use tcc_derive::Prices;
 use tcc_txn::NoMemory;
 
-/// A worker: its number, its seat at the bound, and its one search, which it has from its first start on and renews for each
-/// start after that.
+/// A worker: its number, its seat at the bound, and its one search. It has that from its first start on, and renews it for
+/// each start after that.
 #[derive(Drop)]
 pub(crate) struct Worker {
     pub number: u32,
@@ -56,7 +56,7 @@ impl Worker {
         bound: &Bound,
         gate: &impl Gate,
         start: u32,
-    ) -> Result<Searched, NoMemory>
+    ) -> Result<EndedSearch, NoMemory>
         requires prices { HasJudged prices.now }
         requires worker { IsWorker prices.now bound.now self.old }
         requires start { start < length prices.now.prices }
@@ -71,7 +71,7 @@ impl Worker {
         run(&mut search, prices, bound, &mut self.seat);
         let row = PackedRow::of(alloc, search.row())?;
         self.search = Some(search);
-        Ok(Searched {
+        Ok(EndedSearch {
             start,
             worker: self.number,
             row,

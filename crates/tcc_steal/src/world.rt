@@ -1,4 +1,4 @@
-//! The machine: which events are enabled, and what each of them makes.
+//! The machine: which events are enabled, and what each of them does.
 ghost use Rattle.std.specs.Prelude.{◌≡◌, ◌↔◌, length, map, replicate, All, Contains, None, Some, is_some, IsTrue, IfOk, OnOk};
 ghost use Rattle.std.specs.List.{range_with_len};
 ghost use Rattle.tcc_graph.specs.Levels.{Judged};
@@ -10,7 +10,7 @@ ghost use Rattle.tcc_steal.specs.Outcomes.{Answers, HasRun, StopsAt};
 ghost use Rattle.tcc_steal.specs.private.Making.{Makes};
 ghost use Rattle.tcc_steal.specs.declared.event.Event.TheVariants as event;
 
-use crate::desk::{Begun, Desk};
+use crate::desk::{Begun, WorkerState};
 use crate::event::{Event, RunFault, StepFault};
 use crate::stage::Stage;
 use std::alloc::Global;
@@ -19,14 +19,14 @@ use tcc_core::Search;
 use tcc_derive::Prices;
 use tcc_txn::NoMemory;
 
-/// The machine of all interleavings: so many workers search from all starts, one event after another.
+/// The machine of all interleavings: workers search from all starts, one event after another.
 #[derive(Drop)]
 pub struct World {
     starts: u32,
     word: Option<u32>,
     left: Vec<u32>,
     seed: Option<u32>,
-    desks: Vec<Desk>,
+    desks: Vec<WorkerState>,
 }
 
 impl Model for World {
@@ -40,7 +40,7 @@ impl Model for World {
 }
 
 impl World {
-    /// The beginning for these prices: every start is left, and so many workers are idle.
+    /// The beginning for these prices: every start is left, and `workers` workers are idle.
     pub fn new(alloc: Global, prices: &Prices, workers: u32) -> Result<World, NoMemory>
         ensures first { IfOk result (λ world. world_of world ≡ first_world (length prices.now.prices) workers None) }
         ensures starts { IfOk result (λ world. world.starts ≡ length prices.now.prices) }
@@ -49,7 +49,7 @@ impl World {
         World::begun(alloc, prices, workers, None)
     }
 
-    /// The beginning with a seed, which the law wants to be the cost of a cycle: word and offers begin at it.
+    /// The beginning with a seed, which the law requires to be the cost of a cycle: word and offers begin at it.
     pub fn seeded(
         alloc: Global,
         prices: &Prices,
@@ -206,7 +206,7 @@ impl World {
         Ok(())
     }
 
-    /// A worker has done with its start.
+    /// A worker is done with its start.
     fn end(&mut self, worker: u32) -> Result<(), StepFault>
         ensures { Makes (event.End worker) self.old result self.new }
     {
@@ -247,7 +247,7 @@ impl World {
         Ok(())
     }
 
-    /// How many starts there are: as many as the prices have transactions, which `step` and `run` want.
+    /// How many starts there are: as many as the prices have transactions, which `step` and `run` require.
     pub fn starts(&self) -> u32
         ensures { result ≡ self.now.starts }
     {
@@ -269,7 +269,7 @@ impl World {
     }
 }
 
-/// So many numbers from 0 on.
+/// The first `count` numbers, from 0 on.
 fn numbers(alloc: Global, count: u32) -> Result<Vec<u32>, NoMemory>
     ensures { IfOk result (λ numbers. numbers.items ≡ range_with_len 0 count) }
 {
@@ -280,14 +280,14 @@ fn numbers(alloc: Global, count: u32) -> Result<Vec<u32>, NoMemory>
     Ok(numbers)
 }
 
-/// So many workers that have done nothing.
-fn new_desks(alloc: Global, count: u32) -> Result<Vec<Desk>, NoMemory>
+/// `count` workers that have done nothing.
+fn new_desks(alloc: Global, count: u32) -> Result<Vec<WorkerState>, NoMemory>
     ensures workers { IfOk result (λ desks. map worker_of desks.items ≡ replicate count new_worker) }
     ensures idle { IfOk result (λ desks. All (λ desk. desk.search ≡ None) desks.items) }
 {
     let mut desks = Vec::new(alloc);
     for number in 0..count {
-        desks.push(Desk::new(alloc))?;
+        desks.push(WorkerState::new(alloc))?;
     }
     Ok(desks)
 }

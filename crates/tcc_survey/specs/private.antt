@@ -1,4 +1,4 @@
--- What nobody has to believe: private functions say it to one another, or proofs to themselves.
+-- Definitions that no reader has to trust: only private functions and proofs use them.
 pub mod Firsts
 pub mod Settled
 pub mod Listed

@@ -8,7 +8,7 @@ use Rattle.std.specs.Io.KnownBytes.{Appends}
 use Rattle.std.proofs.KnownBytes.{Appends-trans}
 use Rattle.std.proofs.Math.Seq.{split_at, take-append-add, take-suc}
 use Rattle.tcc_print.specs.Printed.{EndsIn}
-use Rattle.tcc_print.proofs.Moments.{part-of}
+use Rattle.tcc_print.proofs.Checkpoints.{part-of}
 use Rattle.tcc_survey_run.specs.Surveys.{AreWholeLines, BreaksOff, EndsLine}
 
 pub breaks_ending : (json : Bool) (a b : Option (List ℕ)) (x : List ℕ) (code : ℕ) → EndsIn json a b x code → BreaksOff json a b x code

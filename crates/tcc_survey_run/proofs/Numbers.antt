@@ -3,7 +3,7 @@ use Rattle.std.proofs.Common.{◌≡◌, ◌<◌, ◌+◌, ℕ, zero, suc, List,
 use Rattle.std.specs.List.{AllZip}
 use Rattle.std.proofs.Math.Seq.{take-suc}
 use Rattle.tcc_txn.specs.Snapshots.{Sessions}
-use Rattle.tcc_print.proofs.Moments.{AllZip-append}
+use Rattle.tcc_print.proofs.Checkpoints.{AllZip-append}
 use Rattle.tcc_survey_run.specs.Told.{IsToldOf}
 use Rattle.tcc_survey_run.specs.declared.told.ToldRead.{ToldRead}
 use Rattle.std.proofs.lemmas.List.{get_or_default}

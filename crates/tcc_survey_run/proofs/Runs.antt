@@ -14,10 +14,10 @@ use Rattle.tcc_rows.specs.Failing.{items_before_within}
 use Rattle.tcc_rows.specs.Recordings.{IsRecorded}
 use Rattle.tcc_rows.specs.declared.fault.RowFault.{RowFault}
 use Rattle.tcc_print.specs.Courses.{MayEnd}
-use Rattle.tcc_print.specs.Halts.{by_row, is_memory}
-use Rattle.tcc_print.specs.Printed.{Prints, PrintsOrMemory, halted, memory_line}
-use Rattle.tcc_print.specs.Statuses.{halt_status}
-use Rattle.tcc_print.specs.declared.halt.Halt.TheVariants.{NoMemory, Row}
+use Rattle.tcc_print.specs.RunErrors.{by_row, is_memory}
+use Rattle.tcc_print.specs.Printed.{Prints, PrintsOrMemory, printed_error, memory_line}
+use Rattle.tcc_print.specs.Statuses.{run_error_status}
+use Rattle.tcc_print.specs.declared.run_error.RunError.TheVariants.{NoMemory, Row}
 use Rattle.tcc_print.specs.declared.status.Status.TheVariants.{Anomaly, Memory}
 use Rattle.tcc_survey_run.specs.Runs.{IsSaid, IsSurveyRun, limits_of}
 use Rattle.tcc_survey_run.specs.Surveys.{GoesOut, circle_line, survey_status, survey_text}
@@ -48,7 +48,7 @@ out_of_memory options bytes before after code prints = inr (0, NoMemory, tt, pri
 -- the records have a fault
 pub stopped : (options : SurveyOptions) (bytes : List ℕ) (limits : Limits) (fault : RowFault) (before after : Option (List ℕ)) (code : ℕ)
     → limits ≡ limits_of options → IsRecorded limits bytes (Err fault)
-    → PrintsOrMemory options.json before after (halted options.json (by_row fault)) (halt_status (by_row fault)) code
+    → PrintsOrMemory options.json before after (printed_error options.json (by_row fault)) (run_error_status (by_row fault)) code
     → IsSurveyRun options bytes before after code
 stopped options bytes limits fault before after code same is (inl prints) =
     let ends = may_end (limits_of options) bytes fault (subst (λ l. IsRecorded l bytes (Err fault)) same is) in

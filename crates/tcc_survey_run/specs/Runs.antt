@@ -12,9 +12,9 @@ use Rattle.tcc_survey.specs.Circles.{IsAcyclic, IsCircle}
 use Rattle.tcc_survey.specs.Contradictions.{AreContradicted}
 use Rattle.tcc_survey.specs.declared.contradicted.Contradicted.{Contradicted}
 use Rattle.tcc_print.specs.Courses.{MayEnd}
-use Rattle.tcc_print.specs.Printed.{Prints, halted}
-use Rattle.tcc_print.specs.Statuses.{halt_status}
-use Rattle.tcc_print.specs.declared.halt.Halt.{Halt}
+use Rattle.tcc_print.specs.Printed.{Prints, printed_error}
+use Rattle.tcc_print.specs.Statuses.{run_error_status}
+use Rattle.tcc_print.specs.declared.run_error.RunError.{RunError}
 use Rattle.tcc_print.specs.declared.status.Status.{Status}
 use Rattle.tcc_print.specs.declared.status.Status.TheVariants.{Anomaly}
 use Rattle.tcc_survey_run.specs.Surveys.{GoesOut, circle_line, survey_status, survey_text}
@@ -66,7 +66,7 @@ IsSurveyed options bytes before after code =
 -- nothing is said of the records, but why: their fault, that of a reader that failed after lawful ones, or that memory is out
 abbrev pub IsEndedSurvey : SurveyOptions → List ℕ → Option (List ℕ) → Option (List ℕ) → ℕ → Type 0
 IsEndedSurvey options bytes before after code =
-    (n : ℕ) × (why : Halt) × MayEnd (limits_of options) bytes n why × Prints before after (halted options.json why) (halt_status why) code
+    (n : ℕ) × (why : RunError) × MayEnd (limits_of options) bytes n why × Prints before after (printed_error options.json why) (run_error_status why) code
 
 -- what a run does with the bytes
 abbrev pub IsSurveyRun : SurveyOptions → List ℕ → Option (List ℕ) → Option (List ℕ) → ℕ → Type 0

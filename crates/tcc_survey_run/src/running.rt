@@ -53,7 +53,7 @@ fn examine<B: Bounds, P: Progress>(
 
 /// Says what a survey finds in a snapshot, and gives the number that the run ends with. Of the first read faults it is noted which
 /// write each of them is about; and where nothing is found, that this is no answer.
-fn say<B: Bounds, W: Write, N: Write, P: Progress>(
+fn answer_checkpoint<B: Bounds, W: Write, N: Write, P: Progress>(
     alloc: Global,
     snapshot: &SnapshotWithin<B>,
     options: &SurveyOptions,
@@ -97,7 +97,7 @@ fn run_recording<R: Read + Drop, B: Bounds, W: Write, N: Write, P: Progress>(
         → IsSurveyRun options.now bytes (W.contents out.old) (W.contents out.new) result }
 {
     match recording.pass_seals(alloc) {
-        Ok(()) => say(alloc, recording.snapshot(), options, out, notes, progress),
+        Ok(()) => answer_checkpoint(alloc, recording.snapshot(), options, out, notes, progress),
         Err(fault) => stop(alloc, recording, fault, options.json, out, notes),
     }
 }

@@ -1,5 +1,5 @@
 //! What is said of a snapshot, and how it is written line by line.
-ghost use Rattle.std.specs.Prelude.{◌≡◌, ◌<◌, All, flat_map, map, string_bytes, IfErr, IfOk, OnOk};
+ghost use Rattle.std.specs.Prelude.{◌≡◌, ◌<◌, ◌≤◌, ◌^◌, All, flat_map, map, string_bytes, IfErr, IfOk, OnErr, OnOk};
 ghost use Rattle.std.specs.Io.KnownBytes.{Appends};
 ghost use Rattle.tcc_reads.specs.Faults.{read_faults};
 ghost use Rattle.tcc_reads.specs.History.{count, entry_at, initial};
@@ -84,13 +84,13 @@ fn circle_line(alloc: Global, graph: &LargeGraph, json: bool, circle: &[u32]) ->
     }
 }
 
-/// How many external reads have a source.
+/// How many external reads have a source. It is out of memory only where they are more than 64 bits count.
 fn read_count(graph: &LargeGraph) -> Result<usize, NoMemory>
-    ensures { IfOk result (λ reads. reads ≡ read_count graph.now) }
+    ensures reads { IfOk result (λ reads. reads ≡ read_count graph.now) }
+    ensures many { OnErr result (2 ^ 64 ≤ read_count graph.now) }
 {
     let mut reads: usize = 0;
     for number in 0..graph.count() {
-        // So many reads are held by no memory.
         let Some(more) = reads.checked_add(graph.reads_at(number).len()) else {
             return Err(NoMemory);
         };

@@ -12,7 +12,7 @@ use tcc_rows::snapshot_of;
 pub const STALE: &str = "a,begin\na,w,x,1\na,commit\nb,begin\nb,r,x,1\nb,w,y,1\nb,commit\n\
     c,begin\nc,r,y,1\nc,commit\nc,begin\nc,r,x,0\nc,commit\n";
 
-/// A read of the initial value behind an own write.
+/// A read of the initial value after an own write.
 pub const OWN: &str = "a,begin\na,w,x,1\na,commit\na,begin\na,r,x,0\na,commit\n";
 
 pub const OWN_TEXT: &str = "anomaly: 3 steps, stale-initial-read\nsession init -> a/1\n\
@@ -22,12 +22,12 @@ pub const OWN_TEXT: &str = "anomaly: 3 steps, stale-initial-read\nsession init -
 pub const TORN: &str = "a,begin\na,w,x,1\na,commit\nb,begin\nb,w,x,2\nb,commit\n\
     c,begin\nc,r,x,1\nc,r,x,2\nc,commit\n";
 
-/// So many workers.
+/// This many workers.
 pub fn workers_of(rt: &impl Abort, count: u32) -> Workers {
     Workers::new(count).expect(rt, "1 to 32 workers")
 }
 
-/// Records that have an answer, by so many workers.
+/// The answer for records that have one, by this many workers.
 pub fn answer_of(
     rt: &(impl Threads + Sync),
     alloc: Global,

@@ -1,4 +1,4 @@
-//! What no clause says: that there is an answer, which one it is, and which refusal comes.
+//! What no clause says: that there is an answer, which one it is, and which refusal is returned.
 use crate::answers::{OWN_TEXT, text_of};
 use crate::books::{audited, opened, record, recorder};
 use std::alloc::Global;
@@ -36,7 +36,7 @@ fn gives(
     true
 }
 
-/// What recorders leave who record side by side, each in a thread of its own; none where one of them was refused.
+/// What recorders leave that record side by side, each in a thread of its own; none where one of them was refused.
 fn recorded(
     rt: &(impl Threads + Wait + Sync),
     alloc: Global,
@@ -51,7 +51,7 @@ fn recorded(
     Some(recorded)
 }
 
-/// What recorders leave who record one after the other, in this order; none where one of them was refused.
+/// What recorders leave that record one after another, in this order; none where one of them was refused.
 fn one_by_one(rt: &impl Wait, alloc: Global, book: &Book, passes: Vec<Pass>) -> Option<Vec<Pass>> {
     let mut recorded = Vec::new(alloc);
     for pass in passes {
@@ -81,8 +81,8 @@ fn assert_audited(
     assert!(rt; gives(rt, alloc, book, &passes, OWN_TEXT));
 }
 
-/// Two recorders in threads of their own: the text is the same whoever records first, and in whatever order their passes come. A
-/// session without its pass is missed, and afterwards book and passes work on.
+/// Two recorders in threads of their own: the text is the same whichever records first, and in whatever order their passes come. A session
+/// without its pass is reported as missing, and afterwards book and passes work on.
 #[test]
 fn two_recorders(rt: HostRuntime) {
     let alloc = rt.alloc();
@@ -139,7 +139,7 @@ fn unresolved(rt: HostRuntime) {
 /// The sessions of a full book.
 const LETTERS: &[u8] = b"0123456789abcdefghijklmnopqrstuvwxyzABCDEFGHIJKLMNOPQRSTUVWXYZ_.";
 
-/// Records so many transactions without operations.
+/// Records `times` transactions without operations.
 fn idle(rt: &impl Wait, alloc: Global, book: &Book, pass: &mut Pass, times: usize) -> Option<()> {
     for _ in 0..times {
         let txn = Txn::new(Vec::new(alloc), true).ok()?;
@@ -148,8 +148,7 @@ fn idle(rt: &impl Wait, alloc: Global, book: &Book, pass: &mut Pass, times: usiz
     Some(())
 }
 
-/// The passes of as many sessions as there may be, which have recorded 64 transactions each, and the last one fewer: as many
-/// as there may be.
+/// The passes of as many sessions as there may be. Each has recorded 64 transactions, and the last one fewer: as many as there may be.
 fn full(rt: &impl Wait, alloc: Global, book: &Book) -> Option<Vec<Pass>> {
     let mut passes = Vec::new(alloc);
     let mut left = MAX_TRANSACTIONS;

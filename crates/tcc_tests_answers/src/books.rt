@@ -1,4 +1,4 @@
-//! Books, and recorders that note in them.
+//! Books, and recorders that record in them.
 use std::alloc::Global;
 use std::sync::Wait;
 use std::thread::Threads;
@@ -38,7 +38,7 @@ fn key_of(session: &Name) -> Option<Name> {
     Name::read(key).ok()
 }
 
-/// A recorder's whole life: a write, and a read of the initial value behind it.
+/// All that a recorder does: a write, and a read of the initial value after it.
 pub fn recorder(rt: &impl Wait, alloc: Global, book: &Book, pass: Pass) -> Option<Pass> {
     let mut pass = pass;
     let key = key_of(pass.session())?;

@@ -12,7 +12,7 @@ use tcc_graph::Level;
 use tcc_reads::ReadFaultKind;
 use tcc_rows::snapshot_of;
 
-/// A read of the initial value behind a write of another session, known by a later write of that session.
+/// A read of the initial value after a write of another session, which was observed through a later write of that session.
 const WRITES: &str = "a,begin\na,w,x,1\na,commit\na,begin\na,w,y,1\na,commit\n\
     b,begin\nb,r,y,1\nb,r,x,0\nb,commit\n";
 
@@ -53,8 +53,8 @@ const TEXTS: [(&str, Level, &str); 7] = [
     (HALF, Level::Causal, HALF_TEXT),
 ];
 
-/// Records, a level, and the certificate of their answer: two cycles; an order without clocks; one with clocks, in which
-/// places are not numbers; and a cycle beside which a walk of two pairs is none at `Atomic`.
+/// Records, a level, and the certificate of their answer. There are two cycles; an order without clocks; one with clocks, in which places
+/// are not numbers; and a cycle beside which a walk of two pairs is none at `Atomic`.
 const CERTIFICATES: [(&str, Level, &str); 5] = [
     (
         OWN,
@@ -88,7 +88,7 @@ const CERTIFICATES: [(&str, Level, &str); 5] = [
     ),
 ];
 
-/// What is said of an answer.
+/// What is said about an answer.
 #[derive(Clone, Copy)]
 enum Form {
     Text,
@@ -112,7 +112,7 @@ fn said(alloc: Global, answer: &Answer, form: Form) -> Option<Vec<u8>> {
     }
 }
 
-/// What is said is the same by 1, 2 and 32 workers.
+/// The same is said by 1, 2 and 32 workers.
 fn assert_said(
     rt: &(impl Threads + Sync + Abort),
     alloc: Global,

@@ -1,5 +1,4 @@
-//! Workers and gate reach the threads by every call that searches: a body fails that goes on with one worker, or with a gate
-//! of its own.
+//! Workers and gate reach the threads by every call that searches: a mutant fails that goes on with one worker, or with a gate of its own.
 use crate::answers::{OWN_TEXT, answer_of, text_of, workers_of};
 use crate::books::{opened, recorder};
 use std::alloc::Global;
@@ -16,13 +15,13 @@ use tcc_rows::snapshot_of;
 use tcc_run::{Gate, Options, audit, explain_snapshot, run_explain};
 use tcc_txn::Snapshot;
 
-/// A read of the initial value behind an own write, once in each of two sessions: five starts.
+/// A read of the initial value after an own write, once in each of two sessions: five starts.
 const TWICE: &str = "a,begin\na,w,x,1\na,commit\na,begin\na,r,x,0\na,commit\n\
     b,begin\nb,w,y,1\nb,commit\nb,begin\nb,r,y,0\nb,commit\n";
 
 const STARTS: u64 = 5;
 
-/// Holds its first caller until so many starts were entered.
+/// Holds its first caller until a given number of starts were entered.
 #[derive(Drop)]
 struct Holding {
     until: u64,
@@ -76,7 +75,7 @@ fn twice(rt: &impl Abort, alloc: Global) -> Snapshot {
     }
 }
 
-/// By the calls that explain a snapshot one worker is held until the other has entered a start, and until it has entered all.
+/// With the calls that explain a snapshot, one worker is held until the other has entered a start, and until it has entered all.
 #[test]
 fn snapshots(rt: HostRuntime) {
     let alloc = rt.alloc();
@@ -92,7 +91,7 @@ fn snapshots(rt: HostRuntime) {
     }
 }
 
-/// So it is by the call that goes on after an earlier anomaly.
+/// The same with the call that goes on after an earlier anomaly.
 #[test]
 fn histories_that_go_on(rt: HostRuntime) {
     let alloc = rt.alloc();
@@ -108,7 +107,7 @@ fn histories_that_go_on(rt: HostRuntime) {
     }
 }
 
-/// A run by two workers, which answers as the history has it.
+/// A run by two workers, which gives the history's answer.
 fn run(rt: &(impl Threads + Abort + Sync), alloc: Global, file: Option<Vec<u8>>, gate: &Holding) {
     let options = Options {
         level: Level::Causal,
@@ -132,7 +131,7 @@ fn run(rt: &(impl Threads + Abort + Sync), alloc: Global, file: Option<Vec<u8>>,
     assert_eq!(rt; out.as_slice(), OWN_TEXT.as_bytes());
 }
 
-/// And by a run whose certificate is wanted.
+/// The same with a run whose certificate is wanted.
 #[test]
 fn runs(rt: HostRuntime) {
     let alloc = rt.alloc();
@@ -143,7 +142,7 @@ fn runs(rt: HostRuntime) {
     }
 }
 
-/// Where none is wanted, nobody searches.
+/// Where none is wanted, nothing is searched.
 #[test]
 fn runs_without_a_certificate(rt: HostRuntime) {
     let gate = Holding::new(2);
@@ -162,7 +161,7 @@ fn audited(rt: &(impl Threads + Wait + Sync), alloc: Global, gate: &Holding) -> 
     audit(rt, alloc, &book, &passes, Level::Causal, two, gate).ok()
 }
 
-/// And by an audit.
+/// The same with an audit.
 #[test]
 fn audits(rt: HostRuntime) {
     let alloc = rt.alloc();

@@ -1,4 +1,4 @@
-//! Answers of histories that go on, and of others, after an anomaly: worked out by hand.
+//! Answers for histories that go on, and for others, after an anomaly: worked out by hand.
 use crate::answers::{OWN, OWN_TEXT, answer_of, text_of, workers_of};
 use std::alloc::Global;
 use std::process::Abort;
@@ -13,20 +13,20 @@ use tcc_reads::resolve;
 use tcc_rows::snapshot_of;
 use tcc_txn::Snapshot;
 
-/// Two writes of one session, of which another knows the later and misses the earlier.
+/// Two writes of one session; another session has observed the later and misses the earlier.
 const MONOTONIC: &str = "a,begin\na,w,x,1\na,commit\na,begin\na,w,y,1\na,commit\n\
     b,begin\nb,r,y,1\nb,r,x,0\nb,commit\n";
 
 /// Two transactions that read from each other.
 const CIRCLE: &str = "a,begin\na,w,x,1\na,r,y,1\na,commit\nb,begin\nb,w,y,1\nb,r,x,1\nb,commit\n";
 
-/// Two writes that two others see in opposite orders: each may be before the other.
+/// Two writes that two others see in opposite orders: each may come before the other.
 const FORK: &str = "a,begin\na,w,x,1\na,commit\nb,begin\nb,w,y,1\nb,commit\n\
     c,begin\nc,r,x,1\nc,r,y,0\nc,commit\nd,begin\nd,r,x,0\nd,r,y,1\nd,commit\n";
 
-/// Records, those that follow them, a level, and the text of the answer after that of the first: the least anomaly falls
-/// from 4 steps to 3; it stays as it is where nothing follows; and so it does where a session follows that sorts first, so
-/// that all numbers move; a cycle of reads alone, and a level, stay too.
+/// Records, those that follow them, a level, and the text of the answer after that of the first. The least anomaly falls from 4 steps to 3.
+/// It stays as it is where nothing follows. It also stays where a session follows that sorts first, so that all numbers move. A cycle of
+/// reads alone, and a level, stay too.
 const GROWN: [(&str, &str, Level, &str); 5] = [
     (
         MONOTONIC,
@@ -94,7 +94,7 @@ fn anomalies_stay(rt: HostRuntime) {
     grown();
 }
 
-/// The first link that is none of a history which doesn't go on from where the anomaly was; but read faults before that.
+/// The first link that a history doesn't have, if it doesn't continue the one of the anomaly; but read faults come before that.
 #[test]
 fn missing_links(rt: HostRuntime) -> Result<(), Fail> {
     let alloc = rt.alloc();
@@ -114,7 +114,7 @@ fn missing_links(rt: HostRuntime) -> Result<(), Fail> {
     Ok(())
 }
 
-/// An anomaly of one's own making: a link of a history that has none, and no cycle.
+/// An anomaly made by the test: a link of a history that has none, and no cycle.
 fn made(alloc: Global, snapshot: &Snapshot) -> Option<Anomaly> {
     let resolved = resolve(alloc, snapshot).ok()?;
     let graph = Graph::build(alloc, resolved).ok()?;
@@ -125,7 +125,7 @@ fn made(alloc: Global, snapshot: &Snapshot) -> Option<Anomaly> {
     Some(Anomaly::new(Level::Causal, Links::new(links), 1, near, far, labels))
 }
 
-/// Links that are no cycle don't turn the answer.
+/// Links that are no cycle don't change the answer.
 #[test]
 fn order_after_no_cycle(rt: HostRuntime) -> Result<(), Fail> {
     let alloc = rt.alloc();

@@ -1,4 +1,4 @@
-//! Tests of answers, audits and runs, over worked histories. They stand apart, so that what they test is proved once.
+//! Tests of answers, audits and runs, over worked histories. They are in a crate of their own, so that what they test is proved once.
 #![tactic(auto)]
 
 #[cfg(test)]

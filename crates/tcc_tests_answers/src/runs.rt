@@ -1,4 +1,4 @@
-//! Readers that fail in mid-stream and writers that refuse once; what whole runs answer is in tests/rows.
+//! Readers that fail in mid-stream and writers that refuse once; the answers of whole runs are in tests/rows.
 use crate::answers::{OWN, OWN_TEXT};
 use std::alloc::Global;
 use std::io::{self, ErrorKind, Read, Write};
@@ -35,7 +35,7 @@ const UNRESOLVED_TEXT: &str = "unresolved: 1 faults\nThinAir a/1 op 1 x 5\n";
 
 const DEVICE_JSON: &str = "{\"answer\":\"device\"}\n";
 
-// Records that are explained, as text or as JSON: what goes out, the certificate, and the number of the end.
+// Records that are explained, as text or as JSON: what is printed, the certificate, and the exit code.
 const EXPLAINED: [(&str, bool, &str, &str, u8); 5] = [
     (OWN, false, OWN_TEXT, OWN_CERTIFICATE, 1),
     (SEALED, false, SEALED_TEXTS, SEALED_CERTIFICATE, 0),
@@ -50,14 +50,14 @@ const EXPLAINED: [(&str, bool, &str, &str, u8); 5] = [
     ),
 ];
 
-// Records and certificates that are checked: what goes out, and the number of the end.
+// Records and certificates that are checked: what is printed, and the exit code.
 const CHECKED: [(&str, &str, &str, u8); 3] = [
     (OWN, OWN_CERTIFICATE, "accepted: cycle, 3 steps\n", 0),
     (OWN, SEALED_CERTIFICATE, "rejected: rule 1 at 0 0\n", 7),
     (UNRESOLVED, "ring\n", UNRESOLVED_TEXT, 2),
 ];
 
-// Explains the records by one worker, and gives the number that the run ends with.
+// Explains the records by one worker, and returns the exit code of the run.
 fn explained(
     rt: &(impl Threads + Sync),
     alloc: Global,
@@ -78,7 +78,7 @@ fn explained(
     )
 }
 
-// Checks the certificate for the records, and gives the number that the run ends with.
+// Checks the certificate for the records, and returns the exit code of the run.
 fn checked(alloc: Global, records: &str, certificate: &str, out: &mut impl Write) -> u8 {
     let mut notes = io::sink();
     run_check(
@@ -110,7 +110,7 @@ fn broken_after(bytes: &[u8]) -> (Broken<'_>, usize) {
     (Broken { bytes }, bytes.split(|&byte| byte == b'\n').count())
 }
 
-// A run whose reader of records fails tells the row, after the answers that stand.
+// A run whose reader of records fails reports the row, after the answers so far.
 #[test]
 fn readers_of_records_fail(rt: HostRuntime) -> Result<(), Fail> {
     let alloc = rt.alloc();
@@ -128,7 +128,7 @@ fn readers_of_records_fail(rt: HostRuntime) -> Result<(), Fail> {
     Ok(())
 }
 
-// The certificate's reader fails in each line, and behind the last; where the records have a fault, that is told.
+// The certificate's reader fails in each line, and after the last; where the records have a fault, that is reported.
 #[test]
 fn readers_of_certificates_fail(rt: HostRuntime) -> Result<(), Fail> {
     let alloc = rt.alloc();
@@ -199,7 +199,7 @@ fn refusing(alloc: Global, room: usize, refusal: Refusal) -> Reluctant {
     }
 }
 
-// The text up to the byte that was refused went out, and nothing was written again.
+// The text up to the byte that was refused was written, and nothing was written again.
 fn stopped(rt: &impl Abort, out: &Reluctant, text: &str, status: u8, code: u8) {
     let sent = text.as_bytes().get(..out.room).unwrap_or(text.as_bytes());
     assert_eq!(rt; out.taken.as_slice(), sent, "of {text:?}");

@@ -57,7 +57,7 @@ fn assert_part(
     assert_eq!(rt; sent.taken.as_slice(), part, "{fault:?} after {room}");
 }
 
-// The text goes out up to the byte that is refused, whatever the refusal is.
+// The text is written up to the byte that is refused, whatever the refusal is.
 #[test]
 fn writer_fails(rt: HostRuntime) -> Result<(), Fail> {
     let alloc = rt.alloc();
@@ -106,7 +106,7 @@ fn assert_fault<T: Drop>(
     }
 }
 
-/// The number of the line that begins behind the last line feed.
+/// The number of the line that begins after the last line feed.
 fn line_begun(text: &[u8]) -> u64 {
     text.split(|&byte| byte == b'\n').count() as u64
 }
@@ -161,7 +161,7 @@ fn pieces(rt: HostRuntime) {
             let reader = gives_twice(text, most, text.len());
             assert!(&rt; read(alloc, reader).is_ok(), "{text:?} by {most}");
         }
-        // The end is final: what comes behind it is not asked for.
+        // The end is final: nothing after it is asked for.
         let reader = gives_twice(trailing, most, whole);
         assert!(&rt; read(alloc, reader).is_ok(), "by {most}");
         let reader = gives_twice(trailing, most, whole - 1);
@@ -169,7 +169,7 @@ fn pieces(rt: HostRuntime) {
     }
 }
 
-/// The parts of a text before and behind a mark, which stands in it.
+/// The parts of a text before and after a mark in it.
 fn halves<'a>(rt: &impl Abort, text: &'a str, mark: char) -> (&'a str, &'a str) {
     match text.split_once(mark) {
         Some(halves) => halves,
@@ -185,7 +185,7 @@ fn number(rt: &impl Abort, text: &str) -> usize {
     }
 }
 
-/// What came of a text of whatever version: that it is taken, or the line and the kind of its fault.
+/// The result for a text of whatever version: that it is accepted, or the line and the kind of its fault.
 fn outcome<T: Drop>(alloc: Global, found: Result<T, CertFault>) -> Result<String, AllocError> {
     match found {
         Ok(_) => format!(in alloc; "taken"),
@@ -193,8 +193,8 @@ fn outcome<T: Drop>(alloc: Global, found: Result<T, CertFault>) -> Result<String
     }
 }
 
-/// Each row of the table has the number of a line of the text, counted from 1, what comes of another line in its
-/// place, and that line.
+/// Each row of the table has the number of a line of the text, counted from 1, the result with another line in its place,
+/// and that line.
 fn assert_altered(
     rt: &impl Abort,
     alloc: Global,
@@ -273,8 +273,8 @@ const ALTERED: &str = "\
     14:14 Word|done\n\
     14:14 Count|end \n";
 
-/// Alterations of the stale read in version 2. What version 1 has no room for, version 2 takes; where a count is taken,
-/// there are fewer lines or numbers then.
+/// Alterations of the stale read in version 2. Version 2 accepts what version 1 has no room for. Where a count is accepted,
+/// there are then fewer lines or numbers.
 const ALTERED_UPWARD: &str = "\
     1:1 Header|tcc-certificate 2\n\
     1:1 Header|tcc-certificate 2 \n\
@@ -327,7 +327,7 @@ fn trailing_bytes(rt: HostRuntime) -> Result<(), Fail> {
     Ok(())
 }
 
-/// A first line, so many bytes behind it, and what is wrong with them: as a line, where the input ends, and where the
+/// A first line, how many bytes come after it, and what is wrong with them: as a line, where the input ends, and where the
 /// reader fails.
 type Long<'a> = (&'a str, usize, CertFaultKind, CertFaultKind, CertFaultKind);
 
@@ -347,8 +347,7 @@ fn assert_long(rt: &impl Abort, alloc: Global, row: Long<'_>) -> Result<(), Allo
     Ok(())
 }
 
-// A line has at most 8,191 bytes and a line feed, in version 2 behind the first at most 36,863, however the reader
-// goes on.
+// A line has at most 8,191 bytes and a line feed, in version 2 after the first at most 36,863, however the reader goes on.
 #[test]
 fn long_lines(rt: HostRuntime) -> Result<(), Fail> {
     use CertFaultKind::{Header, Read, TooLarge, Truncated, Word};

@@ -1,4 +1,4 @@
-//! Tests of what the search for a cycle stands on, and of the searches of all starts by many workers, by public calls.
+//! Tests of what the search for a cycle depends on, and of the searches of all starts by many workers, by public calls.
 #![tactic(auto)]
 
 #[cfg(test)]

@@ -1,4 +1,4 @@
--- Lists, and entries of them, that are equal where what stands at each index is.
+-- Lists are equal if their elements at each index are equal. So are entries of lists.
 use Rattle.std.proofs.Common.{◌≡◌, ℕ, suc, ◌<◌, List, [], ◌∷◌, length, slice_get, refl, sym, ap, arith, Option, None, Some}
 use Rattle.std.specs.Prelude.{option_map, unwrap_or}
 use Rattle.std.specs.Option.{option_map_or}
@@ -14,7 +14,7 @@ same_lists {X} (x ∷ xs) (y ∷ ys) long each =
     let later : xs ≡ ys = same_lists xs ys (omega (arith, long)) (λ k within. each (suc k) (omega (arith, within))) in
     λ i. here i ∷ later i
 
--- a session's name and its transactions, where there is one, are told by both
+-- a session's name and its transactions, if there is one, follow from both projections
 pub same_named : (o p : Option (List ℕ × List Transaction)) → option_map (λ named. named.0) o ≡ option_map (λ named. named.0) p
     → option_map_or (λ named. named.1) o [] ≡ option_map_or (λ named. named.1) p [] → o ≡ p
 same_named None None names lists = refl

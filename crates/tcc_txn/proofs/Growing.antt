@@ -40,7 +40,7 @@ below-at x [] j d below within = absurd (omega arith)
 below-at x (e ∷ es) zero d below within = less-if _ (both-parts _ _ below).0
 below-at x (e ∷ es) (suc j) d below within = below-at x es j d (both-parts _ _ below).1 (omega arith)
 
--- in sorted parts those before a session come first
+-- in sorted parts those before a session in byte order come first
 pub sorted-before : {X : Type 0} (es : List (List ℕ × X)) (session : List ℕ) (i j : ℕ) (d : List ℕ × X) → T (is_sorted name_cmp es)
     → i ≤ j → j < length es → is_lt (name_cmp (get_or es j d).0 session) ≡ true → is_lt (name_cmp (get_or es i d).0 session) ≡ true
 sorted-before [] session i j d sorted order within before = absurd (omega arith)
@@ -51,7 +51,7 @@ sorted-before (e ∷ es) session (suc i) zero d sorted order within before = abs
 sorted-before (e ∷ es) session (suc i) (suc j) d sorted order within before =
     sorted-before es session i j d (both-parts _ _ sorted).1 (omega arith) (omega arith) before
 
--- the index behind all parts that stand before the session
+-- the index after all parts that are before the session in byte order
 pub index_in-is : {X : Type 0} (session : List ℕ) (es : List (List ℕ × X)) (i : ℕ) → i ≤ length es
     → ((k : ℕ) (d : List ℕ × X) → k < i → is_lt (name_cmp (get_or es k d).0 session) ≡ true)
     → ((d : List ℕ × X) → i < length es → is_lt (name_cmp (get_or es i d).0 session) ≡ false) → index_in session es ≡ i
@@ -69,7 +69,7 @@ index_in-within session (e ∷ es) =
       | false ↦ omega arith
     ]
 
--- a session that has a part: its part is written over, and is the one that is found
+-- a session that has a part: its part is replaced, and is the one that is found
 pub put-present : {X : Type 0} (k : List ℕ) (v : X) (es : List (List ℕ × X)) (d : List ℕ × X) → StandsAt es k (index_in k es)
     → (put name_cmp k v es ≡ set es (index_in k es) ((get_or es (index_in k es) d).0, v)) × (find name_cmp k es ≡ Some (get_or es (index_in k es) d).1)
 put-present k v [] d = λ stands. absurd (omega (arith, stands.0))
@@ -134,7 +134,7 @@ length-insert [] (suc i) x = refl
 length-insert (e ∷ es) zero x = omega arith
 length-insert (e ∷ es) (suc i) x = let more = length-insert es i x in omega (arith, more)
 
--- parts with their lists, of which X are the places
+-- parts with their lists, where X holds these lists
 abbrev pub seen : {X : Type 0} → (X → List Transaction) → List (List ℕ × X) → List (List ℕ × List Transaction)
 seen {X} f es = map (λ (e : List ℕ × X). (e.0, f e.1)) es
 
@@ -177,7 +177,7 @@ module _ {X : Type 0} (f : X → List Transaction) where
   same_at (x ∷ es) zero d e within = refl
   same_at (x ∷ es) (suc at) d e within = same_at es at d e (omega (arith, within))
 
-  -- the session's part stands at the index, seen or not
+  -- the session's part is at the index, whether its transactions are seen through X or not
   pub stands-seen : (es : List (List ℕ × X)) (session : List ℕ) (at : ℕ) → StandsAt es session at → StandsAt (seen f es) session at
   stands-seen [] session at stands = absurd (omega (arith, stands.0))
   stands-seen (e ∷ es) session at stands =
@@ -226,7 +226,7 @@ count-put k txn (e ∷ es) sorted = by (name_cmp k e.0) refl (λ rest. count-put
         let after = more (both-parts _ _ sorted).1 in
         ap (sum_by size) (later is) ∙ (sum_by-cons size e (put name_cmp k list es) ∙ omega (arith, after, sum_by-cons size e es))
 
--- the part that was looked at is the session's, or is not
+-- the part that was examined is the session's, or is not
 pub stands-here : {X : Type 0} (es : List (List ℕ × X)) (at : ℕ) (part : List ℕ × X) (session : List ℕ) → at < length es
     → part ≡ get_or es at part → pointwise nat_eq part.0 session ≡ true → StandsAt es session at
 stands-here {X} es at part session within is same =

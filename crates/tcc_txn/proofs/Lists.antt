@@ -1,17 +1,17 @@
--- Lemmas on lists, truth values and results that std has not, for every crate above.
---   whole             a slice that a call wrote over in full, in its vector again
---   or_swap           the first two of three truth values change places
---   matched           what follows of a value where there is one
---   found_number      a number that a search finds is in the list
---   number_found      a search finds each number of a list
---   in_filter         an element that passes is kept
---   from_filter       what is kept is an element, and passes
---   in_map            the image of an element is one of the images
---   from_map          each of these is one of an element
---   in_flat_map       an element of a part is an element of the parts put together
---   from_flat_map     an element of the parts put together is one of some part
--- In std: `or-false` (Math.Bool), `not-true`, `not-false`, `and_parts`, `or_parts` (lemmas.Bool), `Equal-is` (specs.Cmp),
--- `bytes_eq-Decides` (lemmas.Slice.Eq), `exact_bytes`, `exact_unsigned` (lemmas.Map.Lookups).
+-- Lemmas on lists, truth values and results that std lacks, for every crate above.
+-- - `whole`: a slice that a call overwrote in full, in its vector again
+-- - `or_swap`: the first two of three truth values change places
+-- - `matched`: what follows from a value, if there is one
+-- - `found_number`: a number that a search finds is in the list
+-- - `number_found`: a search finds each number of a list
+-- - `in_filter`: an element that passes is kept
+-- - `from_filter`: what is kept is an element, and passes
+-- - `in_map`: the image of an element is one of the images
+-- - `from_map`: each image is the image of an element
+-- - `in_flat_map`: an element of a part is an element of the concatenated parts
+-- - `from_flat_map`: an element of the concatenated parts is an element of some part
+-- - in std: `or-false` (Math.Bool), `not-true`, `not-false`, `and_parts`, `or_parts` (lemmas.Bool), `Equal-is` (specs.Cmp),
+--   `bytes_eq-Decides` (lemmas.Slice.Eq), `exact_bytes`, `exact_unsigned` (lemmas.Map.Lookups).
 use Rattle.std.proofs.Common.{◌≡◌, ◌==◌, ◌⊎◌, ℕ, zero, suc, Bool, true, false, ◌||◌, inl, inr, List, []}
 use Rattle.std.proofs.Common.{◌∷◌, ◌++◌, length, take, drop, filter, map, flat_map, cond, refl, sym, ap, ◌∙◌}
 use Rattle.std.proofs.Common.{arith, subst}

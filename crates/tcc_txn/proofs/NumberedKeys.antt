@@ -1,4 +1,4 @@
--- Keys of operations, by the numbers of a table of names.
+-- Keys of operations, by their numbers in a table of names.
 use Rattle.std.proofs.Common.{◌≡◌, ℕ, zero, suc, ◌+◌, ◌≤◌, ◌<◌, ◌++◌, Bool, true, false, cond, List, [], ◌∷◌, length, get_or, take, drop, map, flat_map, refl, ap, sym, subst}
 use Rattle.std.proofs.Common.{◌∙◌, arith, length-append, append-nil, append_assoc}
 use Rattle.std.specs.Prelude.{All}
@@ -23,7 +23,7 @@ joined names ns ms xs ys here there = record {
   named = map-append (name_at names) ns ms ∙ (λ i. here.named i ++ there.named i);
 }
 
--- where names come behind
+-- the same after names were appended
 numbered_on : (names more : Names) (ns : List ℕ) (xs : Names) → AreNumbers names ns xs → AreNumbers (names ++ more) ns xs
 numbered_on names more ns xs here = record {
   within = λ k d inside. omega (arith, here.within k d inside, length-append names more);
@@ -44,7 +44,7 @@ with_on names x ns xs here =
       | false ↦ numbered_on names (x ∷ []) ns xs here
     ]
 
--- one key more
+-- one more key
 pub one_numbered : (names next : Names) (x : List ℕ) (n : ℕ) (ns : List ℕ) (xs : Names) → next ≡ with_symbol x names → IsNumber next x n → AreNumbers names ns xs
     → AreNumbers next (ns ++ n ∷ []) (xs ++ x ∷ [])
 one_numbered names next x n ns xs is number here =
@@ -53,7 +53,7 @@ one_numbered names next x n ns xs is number here =
       named = λ i. number.named i ∷ [];
     })
 
--- the keys of one thing more, of things that have keys
+-- the keys after one more item, for items that have keys
 pub more_keys : {X : Type 0} (f : X → Names) (xs : List X) (i : ℕ) (d : X) (done : Names) → i < length xs
     → done ++ flat_map f (take (i + 1) xs) ≡ (done ++ flat_map f (take i xs)) ++ f (get_or xs i d)
 more_keys {X} f xs i d done inside =

@@ -1,4 +1,4 @@
--- A table of names that takes one more.
+-- A table of names to which one is added.
 use Rattle.std.proofs.Common.{◌≡◌, ℕ, zero, suc, ◌<◌, Bool, true, false, cond, ◌||◌, List, [], ◌∷◌, ◌++◌, length, get_or, refl, ap, sym, subst, ◌∙◌, arith}
 use Rattle.std.proofs.Common.{Option, None, Some, length-append}
 use Rattle.std.specs.Prelude.{MatchOption}
@@ -32,7 +32,7 @@ among names name n number =
 pub no_more : (names : List (List ℕ)) (name : List ℕ) (n : ℕ) → IsNumber names name n → with_symbol name names ≡ names
 no_more names name n number = ap (λ b. cond b names (names ++ name ∷ [])) (among names name n number)
 
--- a number stays where more names come behind
+-- a name keeps its number when names are appended
 pub number-on : (names more : List (List ℕ)) (name : List ℕ) (n : ℕ) → IsNumber names name n → IsNumber (names ++ more) name n
 number-on names more name n number = record {
   within = omega (arith, number.within, length-append names more);
@@ -50,7 +50,7 @@ equal-if Less e = cc
 equal-if Equal e = refl
 equal-if Greater e = cc
 
--- what a map may hold at a name
+-- what a map may hold for a name
 abbrev Held : List (List ℕ) → List ℕ → Option ℕ → Type 0
 Held names q found = MatchOption found (list_any (same_name q) names ≡ false) (IsNumber names q)
 
@@ -58,7 +58,7 @@ pub held : (names : List (List ℕ)) (numbers : BTreeMap (List ℕ) ℕ) (name :
     → get name_cmp numbers name ≡ Some n → IsNumber names name n
 held names numbers name n holds found = subst (Held names name) found (holds name)
 
--- the map that takes the number of one more name
+-- the map after the number of one more name is put into it
 pub numbers-grown : (names : List (List ℕ)) (name : List ℕ) (old new : BTreeMap (List ℕ) ℕ) → HoldsNumbers names old
     → Updates name_cmp old new name (Some (length names)) → HoldsNumbers (names ++ name ∷ []) new
 numbers-grown names name old new holds updates q =
@@ -90,7 +90,7 @@ either_order true false = refl
 either_order false true = refl
 either_order false false = refl
 
--- what is among the names with one more
+-- which names are in the table after one more
 pub symbol-more : (names : List (List ℕ)) (name q : List ℕ) → is_symbol q (with_symbol name names) ≡ (same_name name q || is_symbol q names)
 symbol-more names name q = go (is_symbol name names) refl
   where

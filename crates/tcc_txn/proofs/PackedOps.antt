@@ -1,4 +1,4 @@
--- Packed operations and transactions, where their table of names and the operations behind them grow.
+-- Packed operations and transactions, as their table of names and the list of operations grow.
 use Rattle.std.proofs.Common.{◌≡◌, ℕ, zero, suc, ◌+◌, ◌≤◌, ◌<◌, cond, List, [], ◌∷◌, ◌++◌, length, map, take, drop, get_or, refl, ap, sym, subst, ◌∙◌, arith}
 use Rattle.std.proofs.Common.{Option, None, Some, slice_get, append-nil, append_assoc, length-append, length-drop}
 use Rattle.std.specs.Prelude.{All, option_map}
@@ -32,7 +32,7 @@ prefix_on {X} xs ys zs p q = (p.0 ++ q.0, q.1 ∙ ap (λ (z : List X). z ++ q.0)
 pub prefix_length : {X : Type 0} (xs ys : List X) → IsPrefix xs ys → length xs ≤ length ys
 prefix_length xs ys p = omega (arith, ap length p.1, length-append xs p.0)
 
--- the front of a list that begins with another
+-- the prefix of a list that begins with another
 pub prefix_front : {X : Type 0} (xs ys : List X) → IsPrefix xs ys → take (length xs) ys ≡ xs
 prefix_front {X} xs ys p =
     ap (λ (z : List X). take (length xs) z) p.1 ∙ (take-append-le (length xs) xs p.0 (omega arith) ∙ take_all (length xs) xs (omega arith))
@@ -107,7 +107,7 @@ module _ (names all : Names) (front : IsPrefix names all) (ops behind : List Pac
   lawful-on spans within lawful k d inside =
       subst (λ (t : Transaction). txn_fault t.ops ≡ None) (sym (txn_in-on (get_or spans k d) (within k d inside))) (lawful k d inside)
 
--- what the transactions of a session are stays where names and operations come behind
+-- the transactions of a session stay the same when names and operations are appended
 module _ (names all : Names) (front : IsPrefix names all) (old new : PackedTxns) (packed : ArePacked names old)
     (begins : IsPrefix old.ops.items new.ops.items) (spans : new.spans.items ≡ old.spans.items) where
   pub txns-kept : txns_in all new ≡ txns_in names old
@@ -115,7 +115,7 @@ module _ (names all : Names) (front : IsPrefix names all) (old new : PackedTxns)
       ap (map (txn_in all new.ops.items)) spans
       ∙ txns_in-on names all front old.ops.items new.ops.items packed.named begins old.spans.items packed.spanned
 
-  -- the operations that came behind are named too
+  -- the appended operations are named too
   pub packed-kept : AreNamed all new.ops.items → ArePacked all new
   packed-kept named = record {
     named = named;

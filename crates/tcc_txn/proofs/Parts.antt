@@ -23,7 +23,7 @@ names_of parts = map (λ part. part.0) parts
 abbrev pub has_name : {X : Type 0} → List (List ℕ × X) → List ℕ → Bool
 has_name parts name = list_any (λ part. pointwise nat_eq name part.0) parts
 
--- what is repeated from the i-th name on: that name, where it stands among those before
+-- the first repeated name from index i on: the name at i if it is among those before
 pub repeated_at : {X : Type 0} (parts : List (List ℕ × X)) (i : ℕ) (d : List ℕ × X) → i < length parts
     → first_repeated (names_of (take i parts)) (names_of (drop i parts))
     ≡ cond (has_name (take i parts) (get_or parts i d).0) (Some (get_or parts i d).0)

@@ -24,13 +24,13 @@ opposite false true e = refl
 opposite false false e = cc e
 
 module _ {X : Type 0} (parts : List (List ℕ × X)) (i : ℕ) (part : List ℕ × X) (within : i < length parts) (is : part ≡ get_or parts i part) where
-  -- whether a name stands among one more of the names
+  -- whether a name is among the first names, after one more of them
   pub has_name-more : (q : List ℕ) → has_name (take (i + 1) parts) q ≡ (has_name (take i parts) q || (pointwise nat_eq q part.0 || false))
   has_name-more q =
       ap (λ ps. has_name ps q) (take_more parts i part within ∙ ap (λ p. take i parts ++ p ∷ []) (sym is))
       ∙ list_any-append (λ (p : List ℕ × X). pointwise nat_eq q p.0) (take i parts) (part ∷ [])
 
-  -- the set with the name holds one more of the names
+  -- the set after the name is inserted holds one more of the names
   pub holds-more : (old new : BTreeSet (List ℕ)) → ((q : List ℕ) → contains (slice_cmp nat_cmp) old q ≡ has_name (take i parts) q)
       → Updates (slice_cmp nat_cmp) old new part.0 true → (q : List ℕ) → contains (slice_cmp nat_cmp) new q ≡ has_name (take (i + 1) parts) q
   holds-more old new holds updates q =
@@ -48,7 +48,7 @@ module _ {X : Type 0} (parts : List (List ℕ × X)) (i : ℕ) (part : List ℕ 
       ∙ sym (ap (λ p. cond (has_name (take i parts) p.0) (Some p.0) (first_repeated (names_of (take (i + 1) parts)) (names_of (drop (i + 1) parts)))) is)
       ∙ ap (λ t. cond t (Some part.0) (first_repeated (names_of (take (i + 1) parts)) (names_of (drop (i + 1) parts)))) (sym tested)
 
-  -- the name is there already, or it is not
+  -- the name was in the set already, or it was not
   pub was-there : (old : BTreeSet (List ℕ)) (added : Bool) → ((q : List ℕ) → contains (slice_cmp nat_cmp) old q ≡ has_name (take i parts) q)
       → added ≡ not (contains (slice_cmp nat_cmp) old part.0) → not added ≡ has_name (take i parts) part.0
   was-there old added holds is_new = sym (opposite added (contains (slice_cmp nat_cmp) old part.0) is_new) ∙ holds part.0

@@ -1,4 +1,4 @@
--- The sessions of a snapshot as entries in byte order of their names: what stands under a name, and which name comes first.
+-- The sessions of a snapshot as entries in byte order of their names: what each name has, and which name comes first.
 use Rattle.std.proofs.Common.{ℕ, zero, suc, ◌≡◌, ◌<◌, ◌⊎◌, inl, inr, Bool, true, false, cond, T}
 use Rattle.std.proofs.Common.{List, [], ◌∷◌, length, map, get_or, Some, refl, sym, ap, subst, ◌∙◌}
 use Rattle.std.proofs.Common.{arith}
@@ -91,7 +91,7 @@ module _ (s : Sessions) where
   pub entry_of_name : (name : List ℕ) (v : List Transaction) → get s name ≡ Some v → (e : Named) × Contains (entries s) e × (e.0 ≡ name) × (e.1 ≡ v)
   entry_of_name name v found = entry_found (entries s) name v (sym (get-entries s name) ∙ found)
 
-  -- of two entries that of the lesser name stands first
+  -- of two entries the one with the lesser name comes first
   pub lesser_first : (i j : ℕ) (d : Named) → i < length (entries s) → j < length (entries s)
       → name_cmp (get_or (entries s) i d).0 (get_or (entries s) j d).0 ≡ Less → i < j
   lesser_first i j d within inside less = go (cases_order i j)

@@ -15,7 +15,7 @@ use Rattle.tcc_txn.specs.declared.limits.Limits.{Limits}
 use Rattle.tcc_txn.specs.declared.limits.Limits.TheVariants.{Small}
 use Rattle.tcc_txn.specs.declared.limits.TheConstants.{MAX_SESSIONS, MAX_TRANSACTIONS}
 
--- the fault by the name that is repeated, the number of sessions and that of transactions
+-- the fault, by the repeated name, the number of sessions and the number of transactions
 abbrev pub fault_by_within : Limits → Option (List ℕ) → ℕ → ℕ → Option SnapshotFault
 fault_by_within limits repeated sessions transactions =
     option_map_or (λ name. Some (Repeated name)) repeated
@@ -26,7 +26,7 @@ fault_by_within limits repeated sessions transactions =
 abbrev pub fault_by : Option (List ℕ) → ℕ → ℕ → Option SnapshotFault
 fault_by = fault_by_within Small
 
--- without a fault no name is repeated, and the limits are kept
+-- without a fault no name is repeated, and the limits hold
 pub record IsFaultless (limits : Limits) (repeated : Option (List ℕ)) (sessions transactions : ℕ) : Type 0 where
   pub distinct : repeated ≡ None
   pub few : sessions ≤ most_sessions limits

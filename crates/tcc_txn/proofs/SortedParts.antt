@@ -32,11 +32,11 @@ equal_if Less e = cc
 equal_if Equal e = refl
 equal_if Greater e = cc
 
--- names that test alike are one
+-- names that the test finds equal are equal
 pub same_names : (a b : List ℕ) → same_name a b ≡ true → a ≡ b
 same_names a b e = exact_bytes a b (equal_if (name_cmp a b) (sym (texts_ties a b) ∙ e))
 
--- where no name is repeated all differ
+-- if no name is repeated, all differ
 pub distinct_names : (earlier later : List (List ℕ)) → first_repeated earlier later ≡ None → IsDistinct same_name earlier
     → IsDistinct same_name (earlier ++ later)
 distinct_names earlier [] none distinct = subst (IsDistinct same_name) (sym (append-nil earlier)) distinct
@@ -76,7 +76,7 @@ find_is_lookup : {X : Type 0} (q : List ℕ) (es : List (List ℕ × X)) → fin
 find_is_lookup q [] = refl
 find_is_lookup q (e ∷ es) = λ i. cond (sym (texts_ties q e.0) i) (Some e.1) (find_is_lookup q es i)
 
--- of two names that do not fall and differ the first is less
+-- of two names that differ, in ascending order, the first is less
 strictly : (a b : List ℕ) → is_lt (name_cmp b a) ≡ false → same_name a b ≡ false → name_cmp a b ≡ Less
 strictly a b up apart =
     elim (name_cmp b a) as (λ r. name_cmp a b ≡ ordering_reverse r → is_lt r ≡ false → name_cmp a b ≡ Less) [
@@ -96,7 +96,7 @@ rising_from_strict (e ∷ es) up =
     λ i. below_from_less e.0 es (sorted_head name_cmp e.0 (names_of es) up) i
     && rising_from_strict es (sorted_tail name_cmp e.0 (names_of es) up) i
 
--- names that do not fall and differ rise
+-- names in ascending order that differ strictly ascend
 pub rising_names : {X : Type 0} (es : List (List ℕ × X)) → IsDistinct same_name (names_of es) → IsSortedByKey (λ e. e.0) name_cmp es
     → finite.is_sorted name_cmp es ≡ true
 rising_names [] distinct sorted = refl

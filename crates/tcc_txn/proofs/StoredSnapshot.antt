@@ -1,4 +1,4 @@
--- A snapshot as it lies in memory.
+-- A snapshot in memory.
 use Rattle.std.proofs.Common.{◌≡◌, ℕ, ◌≤◌, inl, inr, true, List, [], length, sum_by, refl, ap, sym, ◌∙◌, subst, arith, None, T, ◌∷◌, ◌&&◌}
 use Rattle.std.proofs.lemmas.Option.{slice_get_cases}
 use Rattle.std.specs.List.{IsDistinct}
@@ -40,7 +40,7 @@ short-at es i = elim (slice_get_cases es i).1 [
   | inr past ↦ rw past.1 (omega arith)
 ]
 
--- a snapshot of some parts has their names, so many sessions and so many transactions
+-- a snapshot of some parts has their names, as many sessions and as many transactions
 module _ {limits : Limits} (parts : List Named) (s : Sessions) (stored : IsStoredWithin limits parts) (is : shown parts ≡ s) where
   pub entries-parts : parts ≡ finite.entries s
   entries-parts = sym (entries-shown parts stored) ∙ ap (λ m. finite.entries m) is
@@ -57,7 +57,7 @@ module _ {limits : Limits} (parts : List Named) (s : Sessions) (stored : IsStore
   pub few-finished : (i : ℕ) → length (finished_at s i) ≤ most_transactions limits
   few-finished i = omega (arith, short-parts, short-at (finite.entries s) i)
 
-  -- a snapshot is stored within other limits too, if it keeps these
+  -- a snapshot is stored within other limits too, if it keeps them
   pub stored-within : (other : Limits) → IsWithinLimits other s → IsStoredWithin other parts
   stored-within other within = record {
     sorted = stored.sorted;
@@ -79,7 +79,7 @@ distinct_none : IsDistinct same_name []
 unfolding IsDistinct
 distinct_none = tt
 
--- parts with names that do not fall and differ show names that rise
+-- parts in ascending order of names that differ show names that strictly ascend
 rising_parts : (sorted : List (List ℕ × Vec Transaction)) → IsDistinct same_name (names_of sorted)
     → IsSortedByKey (λ part. part.0) (slice_cmp nat_cmp) sorted → finite.is_sorted (slice_cmp nat_cmp) (parts_of sorted) ≡ true
 rising_parts sorted distinct rising = is_sorted-parts_of sorted ∙ rising_names sorted distinct rising

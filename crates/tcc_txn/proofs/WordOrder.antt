@@ -66,7 +66,7 @@ cmp-four xs ys e f =
     (slice_cmp nat_cmp (drop_all 32 xs (omega (arith, e)) i) (drop_all 32 ys (omega (arith, f)) i)))
     ∙ sym (then_equal (ordering_then three (word_cmp 24 xs ys)))
 
--- the number that `high` makes with n bytes from an index on behind it
+-- the number that `high` makes, followed by n bytes from an index on
 abbrev number_from : ℕ → ℕ → ℕ → List ℕ → ℕ
 number_from high at zero bytes = high
 number_from high at (suc n) bytes = number_from (high * 256 + get_or bytes at 0) (suc at) n bytes
@@ -136,7 +136,7 @@ then_decided Less next h = refl
 then_decided Equal next h = absurd (h refl)
 then_decided Greater next h = refl
 
--- where the first words differ, they decide
+-- if the first words differ, they decide
 pub cmp-differing : (xs ys : List ℕ) → length xs ≡ MAX_NAME_BYTES → length ys ≡ MAX_NAME_BYTES
     → ((k : ℕ) → get_or xs k 0 < 256) → ((k : ℕ) → get_or ys k 0 < 256)
     → (first_word xs ≡ first_word ys → ⊥) → slice_cmp nat_cmp xs ys ≡ word_cmp 0 xs ys
@@ -165,7 +165,7 @@ cmp-nothing : (n : ℕ) → slice_cmp nat_cmp (replicate n 0) (replicate n 0) �
 cmp-nothing zero = refl
 cmp-nothing (suc n) = cmp-nothing n
 
--- zeros behind bytes of which none is zero leave the order as it is
+-- appended zeros leave the order as it is, if none of the bytes is zero
 pub cmp-zeros : (xs ys : List ℕ) (m n : ℕ) → length xs + m ≡ length ys + n
     → ((k : ℕ) → k < length xs → 0 < get_or xs k 0) → ((k : ℕ) → k < length ys → 0 < get_or ys k 0)
     → slice_cmp nat_cmp (xs ++ replicate m 0) (ys ++ replicate n 0) ≡ slice_cmp nat_cmp xs ys
@@ -180,7 +180,7 @@ cmp-zeros (x ∷ xs) (y ∷ ys) m n e p q =
     ap (ordering_then (nat_cmp x y))
     (cmp-zeros xs ys m n (omega (arith, e)) (λ k h. p (suc k) (omega (arith, h))) (λ k h. q (suc k) (omega (arith, h))))
 
--- the names as they lie in memory compare as their bytes do
+-- names in memory compare as their bytes do
 pub cmp-stored : (len : ℕ) (buffer : List ℕ) (len' : ℕ) (buffer' : List ℕ) → IsStored len buffer → IsStored len' buffer'
     → slice_cmp nat_cmp buffer buffer' ≡ slice_cmp nat_cmp (take len buffer) (take len' buffer')
 cmp-stored len buffer len' buffer' one other =
@@ -191,7 +191,7 @@ cmp-stored len buffer len' buffer' one other =
     (λ i. slice_cmp nat_cmp (one.whole i) (other.whole i))
     ∙ cmp-zeros xs ys (MAX_NAME_BYTES - length xs) (MAX_NAME_BYTES - length ys) (omega (arith, few, few')) (none-zero xs one.named) (none-zero ys other.named)
 
--- what `then_with` answers
+-- what `then_with` returns
 pub then-called : {Called : Type 0} (a b r : Ordering) → MatchOrdering a (r ≡ Less) Called (r ≡ Greater) → (Called → r ≡ b) → r ≡ ordering_then a b
 then-called Less b r e f = e
 then-called Equal b r e f = f e

@@ -1,4 +1,4 @@
--- What the sessions have finished: one transaction more, and whether there are too many.
+-- What the sessions have finished: one more transaction, and whether there are too many.
 use Rattle.std.specs.Prelude.{ℕ, ◌≤◌, List, [], ◌∷◌, ◌++◌, length, sum_by, unwrap_or}
 use Rattle.std.specs.FinMap as map
 use Rattle.tcc_txn.specs.Limits.{most_sessions, most_transactions}
@@ -7,7 +7,7 @@ use Rattle.tcc_txn.specs.Transactions.{Transaction}
 use Rattle.tcc_txn.specs.declared.limits.Limits.{Limits}
 use Rattle.tcc_txn.specs.declared.limits.Limits.TheVariants.{Small}
 
--- the session has one more transaction, the last of its own
+-- the session has one more transaction, its last
 abbrev pub with_transaction : Sessions → List ℕ → Transaction → Sessions
 with_transaction s session txn = map.insert s session (unwrap_or (map.get s session) [] ++ txn ∷ [])
 

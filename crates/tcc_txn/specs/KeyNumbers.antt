@@ -14,7 +14,7 @@ keys_in sessions = flat_map (λ named. keys_of named.1) sessions
 abbrev pub name_at : List (List ℕ) → ℕ → List ℕ
 name_at names n = slice_index_or names n []
 
--- of these names these keys have the numbers
+-- the keys have these numbers among these names
 pub record AreNumbers (names : List (List ℕ)) (numbers : List ℕ) (keys : List (List ℕ)) : Type 0 where
   pub within : All (λ n. n < length names) numbers
   pub named : map (name_at names) numbers ≡ keys

@@ -5,7 +5,7 @@ use Rattle.tcc_txn.specs.declared.limits.Limits.TheVariants.{Small, Large}
 use Rattle.tcc_txn.specs.declared.limits.TheConstants.{MAX_SESSIONS, MAX_TRANSACTIONS, MAX_KEYS, MAX_SEALS, MAX_INPUT_BYTES}
 use Rattle.tcc_txn.specs.declared.limits.TheConstants.{LARGE_SESSIONS, LARGE_TRANSACTIONS, LARGE_KEYS, LARGE_SEALS, LARGE_INPUT_BYTES}
 
--- one number within the small limits, and another within the large ones
+-- one value for the small limits, and another for the large ones
 abbrev pub most_of : ℕ → ℕ → Limits → ℕ
 most_of small large Small = small
 most_of small large Large = large

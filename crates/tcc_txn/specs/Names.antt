@@ -12,7 +12,8 @@ is_name_byte b =
     (nat_le 65 b && nat_le b 90) || (nat_le 97 b && nat_le b 122) || (nat_le 48 b && nat_le b 57)
     || (b == 95) || (b == 46) || (b == 45)
 
--- why the bytes are no name: there are none, more than `MAX_NAME_BYTES`, or one at a position, counted from 1, that no name has
+-- why the bytes are not a name: there are none, there are more than `MAX_NAME_BYTES`, or the byte at a position, counted from
+-- 1, is in no name
 abbrev pub name_fault : List ℕ → Option NameFault
 name_fault bytes =
     if length bytes == 0 then Some Empty

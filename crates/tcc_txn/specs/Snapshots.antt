@@ -17,7 +17,7 @@ use Rattle.tcc_txn.specs.declared.snapshot.SnapshotFault.TheVariants.{Repeated, 
 abbrev pub Sessions : Type 0
 Sessions = FinMap (slice_cmp nat_cmp) (List Transaction)
 
--- the sessions' names with their transactions, whatever the memory in which these lie
+-- the sessions' names with their transactions, without the memory that holds these
 abbrev pub parts_of : List (List ℕ × Vec Transaction) → List (List ℕ × List Transaction)
 parts_of parts = map (λ part. (part.0, part.1.items)) parts
 
@@ -27,7 +27,8 @@ first_repeated earlier [] = None
 first_repeated earlier (name ∷ later) =
     if list_any (pointwise nat_eq name) earlier then Some name else first_repeated (earlier ++ name ∷ []) later
 
--- why the parts make no snapshot within the limits: two have one name, or there are too many sessions or too many transactions
+-- why the parts make no snapshot that keeps the limits: two have one name, or there are too many sessions or too many
+-- transactions
 abbrev pub snapshot_fault_within : Limits → List (List ℕ × List Transaction) → Option SnapshotFault
 snapshot_fault_within limits parts =
     option_map_or (λ name. Some (Repeated name)) (first_repeated [] (map (λ part. part.0) parts))
@@ -35,7 +36,7 @@ snapshot_fault_within limits parts =
     else if nat_lt (most_transactions limits) (sum_by (λ part. length part.1) parts) then Some TooManyTransactions
     else None)
 
--- why they make no small one
+-- why they make no small snapshot
 abbrev pub snapshot_fault : List (List ℕ × List Transaction) → Option SnapshotFault
 snapshot_fault = snapshot_fault_within Small
 

@@ -22,12 +22,13 @@ abbrev pub op_value : Op → ℕ
 op_value (Get key value) = value
 op_value (Put key value) = value
 
--- writes the initial value
+-- the operation writes the initial value
 abbrev pub writes_zero : Op → Bool
 writes_zero (Get key value) = false
 writes_zero (Put key value) = value == 0
 
--- why the operations make no transaction: one at a position, counted from 1, writes 0, or there are more than `MAX_OPERATIONS`
+-- why the operations make no transaction: the one at a position, counted from 1, writes 0, or there are more than
+-- `MAX_OPERATIONS`
 abbrev pub txn_fault : List Op → Option TxnFault
 txn_fault ops =
     option_map_or (λ i. Some (WriteOfZero (i + 1))) (position writes_zero ops) (if nat_lt MAX_OPERATIONS (length ops) then Some TooManyOps else None)

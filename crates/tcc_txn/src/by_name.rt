@@ -1,4 +1,4 @@
-//! Named parts in byte order of their names: where the part of a session stands, by binary search.
+//! Named parts in byte order of their names: binary search for the index of a session's part.
 ghost use Rattle.std.specs.Prelude.{◌≡◌, T, true, false, MatchResult};
 ghost use Rattle.std.specs.Cmp.Lexicographic.{slice_cmp};
 ghost use Rattle.std.specs.FinMap.Entries.{is_sorted};
@@ -7,7 +7,7 @@ ghost use Rattle.tcc_txn.specs.private.SnapshotStorage.{StandsAt, index_in};
 
 use crate::Name;
 
-/// How many parts stand before the session.
+/// How many parts are before the session.
 fn index_of<X>(parts: &[(Name, X)], session: &Name) -> usize
     requires { T (is_sorted (slice_cmp nat_cmp) parts.now) }
     ensures { result ≡ index_in session.now parts.now }

@@ -1,10 +1,10 @@
-//! The numbers of keys as somebody else has them.
+//! The numbers of keys as the caller has them.
 ghost use Rattle.std.specs.Prelude.{◌≡◌, [], drop};
 
 use crate::Name;
 
 /// Names of keys, each at its number, and the numbers that the keys of a transaction's operations have among them, in order.
-/// Who takes them compares the names: nothing depends on what they say, but how long it takes.
+/// Whoever uses them compares the names: only the running time depends on them.
 #[derive(Clone, Copy)]
 pub struct KeyHints<'a> {
     /// The names, each at its number.
@@ -14,7 +14,7 @@ pub struct KeyHints<'a> {
 }
 
 impl<'a> KeyHints<'a> {
-    /// Nobody knows a number.
+    /// No numbers are known.
     pub fn none() -> KeyHints<'a>
         ensures names { result.names.now ≡ [] }
         ensures numbers { result.numbers.now ≡ [] }

@@ -1,4 +1,4 @@
-//! The keys of a snapshot's operations, each by its number in a symbol table. Packed operations have it; the others cost a
+//! The keys of a snapshot's operations, each by its number in a symbol table. Packed operations have it. The others cost a
 //! look-up each.
 ghost use Rattle.std.specs.Prelude.{◌≡◌, ◌++◌, ◌∷◌, [], List, ℕ, IfOk, OnOk, map};
 ghost use Rattle.tcc_txn.specs.{KeyNumbers.AreNumbers, KeyNumbers.keys_in, KeyNumbers.keys_of, Snapshots.parts_of, Transactions.op_key};

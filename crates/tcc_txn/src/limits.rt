@@ -3,14 +3,14 @@ ghost use Rattle.std.specs.Prelude.{◌≡◌};
 ghost use Rattle.tcc_txn.specs.declared.limits.Limits.TheVariants.{Small, Large};
 ghost use Rattle.tcc_txn.specs.Limits.{most_bytes, most_keys, most_of, most_seals, most_sessions, most_transactions};
 
-// Those of each input.
+// For each input.
 
 /// The bytes of a name.
 pub const MAX_NAME_BYTES: usize = 32;
 /// The operations of a transaction.
 pub const MAX_OPERATIONS: usize = 256;
 
-// The small ones.
+// The small limits.
 
 /// The sessions of an input or a snapshot.
 pub const MAX_SESSIONS: usize = 64;
@@ -25,7 +25,7 @@ pub const MAX_SEALS: usize = 256;
 /// The bytes of an input.
 pub const MAX_INPUT_BYTES: u64 = 134_217_728;
 
-// The large ones.
+// The large limits.
 
 /// The sessions of a large input or snapshot.
 pub const LARGE_SESSIONS: usize = 65_535;
@@ -40,7 +40,7 @@ pub const LARGE_SEALS: usize = 1_048_576;
 /// The bytes of a large input.
 pub const LARGE_INPUT_BYTES: u64 = 17_179_869_184;
 
-/// The limits that an input or a snapshot keeps; those on names and operations are the same in both.
+/// The limits that an input or a snapshot keeps. Those on names and operations are the same in both.
 #[derive(Clone, Copy, Debug, PartialEq, Eq)]
 pub enum Limits {
     /// `MAX_SESSIONS`, `MAX_TRANSACTIONS`, `MAX_KEYS`, `MAX_SEALS` and `MAX_INPUT_BYTES`.
@@ -50,7 +50,7 @@ pub enum Limits {
 }
 
 impl Limits {
-    /// One number within the small limits, and another within the large ones.
+    /// One value for the small limits, and another for the large ones.
     fn most_of(self, small: usize, large: usize) -> usize
         ensures { result ≡ most_of small large self }
     {
@@ -99,18 +99,18 @@ impl Limits {
     }
 }
 
-/// A type that stands for limits, by which the type of a snapshot says which ones it keeps.
+/// A type that names limits. By it the type of a snapshot says which limits it keeps.
 pub trait Bounds {
     ghost use Rattle.tcc_txn.specs.declared.limits.Limits.{Limits};
 
     ghost limits: { Limits };
 
-    /// The limits that the type stands for.
+    /// The limits that the type names.
     fn limits() -> Limits
         ensures { result ≡ limits };
 }
 
-/// Stands for `Limits::Small`.
+/// The type of `Limits::Small`.
 pub struct SmallLimits;
 
 impl Bounds for SmallLimits {
@@ -121,7 +121,7 @@ impl Bounds for SmallLimits {
     }
 }
 
-/// Stands for `Limits::Large`.
+/// The type of `Limits::Large`.
 pub struct LargeLimits;
 
 impl Bounds for LargeLimits {

@@ -5,7 +5,7 @@ use crate::NoMemory;
 use std::alloc::Global;
 use std::marker::Model;
 
-/// A vector that contracts see as the list of its items: a table, whose rows are such lists, as a list of lists.
+/// A vector that contracts see as the list of its items. So a table, whose rows are such lists, is a list of lists.
 #[derive(Drop)]
 pub struct ListOf<T> {
     items: Vec<T>,
@@ -34,7 +34,7 @@ impl<T> ListOf<T> {
         &self.items
     }
 
-    /// The items as they came, for those who take a list apart.
+    /// Its items as a vector.
     pub fn into_vec(self) -> Vec<T>
         ensures { result.items ≡ self }
     {

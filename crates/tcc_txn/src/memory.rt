@@ -1,9 +1,9 @@
-//! Out of memory, as the one answer of a call that has no other refusal.
+//! Out of memory: the error of a call that can fail in no other way.
 
 use std::alloc::{AllocError, AllocFailed};
 use thiserror::Error;
 
-/// A growth was refused.
+/// Memory was refused.
 #[derive(Clone, Copy, Debug, PartialEq, Eq, Error)]
 #[error("out of memory")]
 pub struct NoMemory;

@@ -17,7 +17,7 @@ use std::hash::{Hash, Hasher};
 use std::marker::Model;
 use thiserror::Error;
 
-/// Why some bytes are no name.
+/// Why some bytes are not a name.
 #[derive(Clone, Copy, Debug, PartialEq, Eq, Error)]
 pub enum NameFault {
     /// There are no bytes.
@@ -26,16 +26,16 @@ pub enum NameFault {
     /// There are more than `MAX_NAME_BYTES` bytes.
     #[error("the name is too long")]
     TooLong,
-    /// The first byte that no name has, counted from 1.
+    /// The first byte that is in no name, counted from 1.
     #[error("byte {at} cannot stand in a name")]
     BadByte { at: usize },
-    /// Out of memory; never answered, since a name lies in itself.
+    /// Out of memory. It is never returned, since a name needs no memory of its own.
     #[error("out of memory")]
     NoMemory,
 }
 
-/// The name of a session or a key: 1 to `MAX_NAME_BYTES` bytes out of `A-Z`, `a-z`, `0-9`, `_`, `.` and `-`.
-/// Names are ordered by their bytes. Equality, order and hash agree, so a name is a key of maps and of sorted lists.
+/// The name of a session or a key: 1 to `MAX_NAME_BYTES` bytes out of `A-Z`, `a-z`, `0-9`, `_`, `.` and `-`. Names are ordered
+/// by their bytes. Equality, order and hash agree, so a name can be a key of maps and of sorted lists.
 pub struct Name {
     len: u8,
     buffer: [u8; MAX_NAME_BYTES],
@@ -72,7 +72,7 @@ fn is_name_byte(byte: u8) -> bool
     byte.is_ascii_alphanumeric() || byte == b'_' || byte == b'.' || byte == b'-'
 }
 
-/// The first byte that stands in no name.
+/// The first byte that is in no name.
 fn first_bad_byte(bytes: &[u8]) -> Option<usize>
     ensures { result ≡ position (λ b. not (is_name_byte b)) bytes.now }
 {
@@ -92,7 +92,7 @@ fn fault_of(bytes: &[u8]) -> Option<NameFault>
     Some(NameFault::BadByte { at: before + 1 })
 }
 
-/// The eight bytes from an index on as a number, the first of them highest.
+/// The eight bytes from an index on as a number, most significant byte first.
 fn word(buffer: &[u8; MAX_NAME_BYTES], at: usize) -> u64
     requires { at + 8 ≤ MAX_NAME_BYTES }
     ensures { result ≡ from_be_bytes w64 (take 8 (drop at buffer.now)) }
@@ -218,7 +218,7 @@ impl Ord for Name {
     ghost matches_eq = { texts_ties };
 
     fn cmp(&self, other: &Name) -> Ordering {
-        // The zeros behind a name leave the order as it is, since no name has a zero.
+        // The zeros after a name leave the order as it is, since no name has a zero byte.
         cmp_padded(&self.buffer, &other.buffer)
     }
 }

@@ -1,11 +1,11 @@
-//! A direct-mapped cache of the numbers of names: a slot, picked by a hash of the name, keeps the last number that was
-//! put there. Who asks compares the name, so any number is a lawful answer, and names that share a slot cost time alone.
-//! To ask and to put take a constant number of steps.
+//! A direct-mapped cache of the numbers of names. A slot, picked by a hash of the name, keeps the last number that was put
+//! there. The caller compares the name, so any number is a lawful result. Names that share a slot cost time alone. To ask and
+//! to put take a constant number of steps.
 
 use crate::{Name, NoMemory};
 use std::alloc::Global;
 
-/// How many slots a name has, so that most have one of their own.
+/// How many slots there are for each name, so that most names have one of their own.
 const SLOTS_OF_A_NAME: usize = 4;
 
 /// The least number of slots.
@@ -18,14 +18,14 @@ pub struct Nearby {
 }
 
 impl Nearby {
-    /// No slots: each answer is 0.
+    /// No slots: each result is 0.
     pub fn new(alloc: Global) -> Nearby {
         Nearby {
             slots: Vec::new(alloc),
         }
     }
 
-    /// The slots for so many names. Each has the number 0.
+    /// The slots for this many names. Each has the number 0.
     pub fn with_room(alloc: Global, count: usize) -> Result<Nearby, NoMemory> {
         let mut wanted = LEAST_SLOTS;
         for _ in 0..32u32 {
@@ -38,7 +38,7 @@ impl Nearby {
         })
     }
 
-    /// Whether there are slots for so many names.
+    /// Whether there are slots for this many names.
     pub fn has_room(&self, count: usize) -> bool {
         self.slots.len() / SLOTS_OF_A_NAME >= count
     }

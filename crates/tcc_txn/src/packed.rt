@@ -1,6 +1,6 @@
-//! Sessions as a large snapshot holds them. Each key stands once in a symbol table, an operation has its number there
-//! and takes 16 bytes, and the operations of a session stand one behind the other, as the edges of an adjacency list in
-//! compressed rows. One more transaction costs a look-up for each of its operations whose key's number isn't told.
+//! Sessions as a large snapshot holds them. Each key is in a symbol table once. An operation has its number there and takes 16
+//! bytes. The operations of a session follow one another, as the edges of an adjacency list in compressed rows. One more
+//! transaction costs a look-up for each of its operations, unless the caller gives the number of its key.
 ghost use Rattle.std.specs.Prelude.{◌≡◌, ◌≤◌, ◌<◌, ◌⊎◌, ◌++◌, ◌∷◌, [], T, List, None, IfErr, IfOk, OnErr, OnOk, length, option_map, slice_get};
 ghost use Rattle.std.specs.Prelude.{unwrap_or, ◌+◌, All, flat_map, map};
 ghost use Rattle.std.specs.Cmp.Lexicographic.{slice_cmp};
@@ -26,7 +26,7 @@ pub(crate) struct PackedOp {
 
 const _: () = prove!(size_of::<PackedOp>() == 16);
 
-/// Where the operations of a transaction stand among those of its session, and how it ended.
+/// Which of the operations of its session are those of a transaction, and how it ended.
 #[derive(Clone, Copy)]
 pub(crate) struct Span {
     start: u32,
@@ -80,7 +80,8 @@ impl PackedOp {
     }
 }
 
-/// The operation with the number of its key, which is named if it isn't yet; the number is told, or looked up.
+/// The operation with the number of its key, which is added to the table if it is new. The number is the one given, or looked
+/// up.
 fn pack(keys: &mut SymbolTable, op: &Op, told: Option<u32>) -> Result<PackedOp, NoMemory>
     ensures within { IfOk result (λ packed. packed.key < length keys.new) }
     ensures same { IfOk result (λ packed. op_in keys.new packed ≡ op.now) }
@@ -94,7 +95,7 @@ fn pack(keys: &mut SymbolTable, op: &Op, told: Option<u32>) -> Result<PackedOp, 
     })
 }
 
-/// Operations, packed behind those that there are.
+/// Appends operations, packed.
 fn pack_each(
     keys: &mut SymbolTable,
     packed: &mut Vec<PackedOp>,
@@ -113,7 +114,8 @@ fn pack_each(
     Ok(())
 }
 
-/// One more transaction of a session. Where memory is refused, some of its operations may stand behind those that there were.
+/// Appends one more transaction of a session. Where memory is refused, some of its operations may be left after those that
+/// were there.
 fn pack_behind(
     keys: &mut SymbolTable,
     txns: &mut PackedTxns,
@@ -139,7 +141,7 @@ fn pack_behind(
     Ok(())
 }
 
-/// One more transaction of a session; refused, they are as they were.
+/// Appends one more transaction of a session. Where memory is refused, the transactions stay as they were.
 fn push_packed(
     keys: &mut SymbolTable,
     txns: &mut PackedTxns,
@@ -163,7 +165,7 @@ fn push_packed(
     }
 }
 
-/// The transactions of a session that has this one alone.
+/// The transactions of a session that has only this one.
 fn first_packed(
     keys: &mut SymbolTable,
     alloc: Global,
@@ -319,7 +321,7 @@ impl PackedSessions {
         }
     }
 
-    /// The transaction at an index, from 0, of the session at this one.
+    /// The transaction at an index, counted from 0, of the session at the index `i`.
     pub(crate) fn recorded(&self, i: u32, index: usize) -> Option<Recorded<'_>>
         ensures { result ≡ slice_get (listed_at self.now i) index }
     {

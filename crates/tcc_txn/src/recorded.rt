@@ -7,9 +7,9 @@ use crate::{Name, NoMemory, Op, Txn};
 use std::alloc::Global;
 use std::marker::Model;
 
-/// A transaction where it lies, or its operations with a table of the names of their keys.
+/// A transaction by reference, or its operations with a table of the names of their keys.
 #[derive(Drop)]
-pub(crate) enum Form<'a> {
+pub(crate) enum TxnStorage<'a> {
     Plain(&'a Txn),
     Packed {
         keys: &'a [Name],
@@ -21,7 +21,7 @@ pub(crate) enum Form<'a> {
 /// A transaction as a snapshot holds it. Contracts see it as the transaction.
 #[derive(Drop)]
 pub struct Recorded<'a> {
-    form: Form<'a>,
+    form: TxnStorage<'a>,
 }
 
 impl<'a> Model for Recorded<'a> {
@@ -38,7 +38,7 @@ impl<'a> Model for Recorded<'a> {
     ghost invariant = { λ r. IsLawfulForm r.form };
 }
 
-/// Puts packed operations in place of those that a vector held.
+/// Puts packed operations in place of those in a vector.
 fn fill_packed(keys: &[Name], packed: &[PackedOp], ops: &mut Vec<Op>) -> Result<(), NoMemory>
     requires { AreNamed keys.now packed.now }
     ensures { OnOk result (ops.new.items ≡ map (op_in keys.now) packed.now) }
@@ -56,7 +56,7 @@ impl<'a> Recorded<'a> {
         ensures { result ≡ txn.now }
     {
         Recorded {
-            form: Form::Plain(txn),
+            form: TxnStorage::Plain(txn),
         }
     }
 
@@ -67,7 +67,7 @@ impl<'a> Recorded<'a> {
         ensures { result ≡ record { ops = map (op_in keys.now) ops.now; committed = committed } }
     {
         Recorded {
-            form: Form::Packed {
+            form: TxnStorage::Packed {
                 keys,
                 ops,
                 committed,
@@ -80,8 +80,8 @@ impl<'a> Recorded<'a> {
         ensures { result ≡ self.now.committed }
     {
         match &self.form {
-            Form::Plain(txn) => txn.committed(),
-            Form::Packed { committed, .. } => *committed,
+            TxnStorage::Plain(txn) => txn.committed(),
+            TxnStorage::Packed { committed, .. } => *committed,
         }
     }
 
@@ -91,37 +91,37 @@ impl<'a> Recorded<'a> {
         ensures few { result ≤ MAX_OPERATIONS }
     {
         match &self.form {
-            Form::Plain(txn) => txn.ops().len(),
-            Form::Packed { ops, .. } => ops.len(),
+            TxnStorage::Plain(txn) => txn.ops().len(),
+            TxnStorage::Packed { ops, .. } => ops.len(),
         }
     }
 
-    /// The operation at an index, from 0.
+    /// The operation at an index, counted from 0.
     pub fn op(&self, index: usize) -> Option<Op>
         ensures { result ≡ slice_get self.now.ops index }
     {
         match &self.form {
-            Form::Plain(txn) => txn.ops().get(index).copied(),
-            Form::Packed { keys, ops, .. } => match ops.get(index) {
+            TxnStorage::Plain(txn) => txn.ops().get(index).copied(),
+            TxnStorage::Packed { keys, ops, .. } => match ops.get(index) {
                 Some(op) => Some(op.named(keys)),
                 None => None,
             },
         }
     }
 
-    /// Puts its operations in place of those that a vector held.
+    /// Puts its operations in place of those in a vector.
     pub fn fill(&self, ops: &mut Vec<Op>) -> Result<(), NoMemory>
         ensures value { OnOk result (ops.new.items ≡ self.now.ops) }
         ensures few { length self.now.ops ≤ MAX_OPERATIONS }
         ensures lawful { txn_fault self.now.ops ≡ None }
     {
         match &self.form {
-            Form::Plain(txn) => {
+            TxnStorage::Plain(txn) => {
                 ops.clear();
                 ops.extend_from_slice(txn.ops())?;
                 Ok(())
             }
-            Form::Packed {
+            TxnStorage::Packed {
                 keys,
                 ops: packed,
                 ..
@@ -134,8 +134,8 @@ impl<'a> Recorded<'a> {
         ensures { IfOk result (λ txn. txn ≡ self.now) }
     {
         match &self.form {
-            Form::Plain(txn) => txn.copy(alloc),
-            Form::Packed {
+            TxnStorage::Plain(txn) => txn.copy(alloc),
+            TxnStorage::Packed {
                 keys,
                 ops: packed,
                 committed,

@@ -29,7 +29,7 @@ use thiserror::Error;
 /// Why some lists of transactions make no snapshot.
 #[derive(Debug, Drop, Error)]
 pub enum SnapshotFault {
-    /// The first name that an earlier one equals.
+    /// Two parts have this name: the first name that equals an earlier one.
     #[error("session {session} stands twice")]
     Repeated { session: Name },
     /// There are more than `MAX_SESSIONS` sessions, or `LARGE_SESSIONS` in a large snapshot.
@@ -39,7 +39,7 @@ pub enum SnapshotFault {
     /// snapshot, aborted ones counted.
     #[error("there are too many transactions")]
     TooManyTransactions,
-    /// Out of memory; never answered, since the parts are sorted where they lie.
+    /// Out of memory. It is never returned, since the parts are sorted in place.
     #[error("out of memory")]
     NoMemory,
 }
@@ -47,10 +47,10 @@ pub enum SnapshotFault {
 /// Why a snapshot doesn't take one more transaction.
 #[derive(Clone, Copy, Debug, PartialEq, Eq, Error)]
 pub enum GrowFault {
-    /// Its session would be one more than there may be.
+    /// There would be one more session than the limit allows.
     #[error("there are too many sessions")]
     TooManySessions,
-    /// There are as many transactions as there may be.
+    /// There are as many transactions as the limit allows.
     #[error("there are too many transactions")]
     TooManyTransactions,
     /// Out of memory.
@@ -68,8 +68,8 @@ impl<T: Drop> From<AllocFailed<T>> for GrowFault {
     }
 }
 
-/// What the sessions had finished at one moment, within the limits that `B` stands for: the sessions
-/// in byte order of their names.
+/// What the sessions had finished at one moment: the sessions in byte order of their names, no more of them and of their
+/// transactions than the limits that `B` names allow.
 #[derive(Drop)]
 pub struct SnapshotWithin<B: Bounds> {
     sessions: Storage,
@@ -115,7 +115,7 @@ fn is_among(parts: &[(Name, Vec<Txn>)], name: Name) -> bool
     parts.iter().any(|part| name == part.0)
 }
 
-/// The first name that an earlier one equals, each compared with all before it.
+/// The first name that equals an earlier one, each compared with all before it.
 fn repeated_by_pairs(parts: &[(Name, Vec<Txn>)]) -> Option<Name>
     ensures { result ≡ first_repeated [] (map (λ part. part.0) parts.now) }
 {
@@ -127,7 +127,7 @@ fn repeated_by_pairs(parts: &[(Name, Vec<Txn>)]) -> Option<Name>
     None
 }
 
-/// The first name that an earlier one equals, each looked up by order among those before it.
+/// The first name that equals an earlier one, each looked up in an ordered set of those before it.
 fn repeated_by_order(alloc: Global, parts: &[(Name, Vec<Txn>)]) -> Result<Option<Name>, NoMemory>
     ensures { IfOk result (λ found. found ≡ first_repeated [] (map (λ part. part.0) parts.now)) }
 {
@@ -140,7 +140,7 @@ fn repeated_by_order(alloc: Global, parts: &[(Name, Vec<Txn>)]) -> Result<Option
     Ok(None)
 }
 
-/// The first name that an earlier one equals. Where memory is refused it takes longer.
+/// The first name that equals an earlier one. Where memory is refused it takes longer.
 fn first_repeated(alloc: Global, parts: &[(Name, Vec<Txn>)]) -> Option<Name>
     ensures { result ≡ first_repeated [] (map (λ part. part.0) parts.now) }
 {
@@ -150,7 +150,7 @@ fn first_repeated(alloc: Global, parts: &[(Name, Vec<Txn>)]) -> Option<Name>
     }
 }
 
-/// Whether there are more transactions than so many.
+/// Whether there are more transactions than `most`.
 fn has_too_many_transactions(parts: &[(Name, Vec<Txn>)], most: usize) -> bool
     ensures { result ≡ nat_lt most (sum_by (λ part. length part.1.items) parts.now) }
 {
@@ -198,7 +198,7 @@ fn sort_by_name(parts: &mut [(Name, Vec<Txn>)])
     parts.sort_unstable_by_key(|part| part.0);
 }
 
-/// The parts in byte order of their names, where they make a snapshot within the limits.
+/// The parts in byte order of their names, if they make a snapshot that keeps the limits.
 fn in_order(
     parts: Vec<(Name, Vec<Txn>)>,
     limits: Limits,
@@ -236,7 +236,7 @@ fn push(txns: &mut Vec<Txn>, txn: Txn) -> Result<(), GrowFault>
     Ok(())
 }
 
-/// The first transaction of a session, whose part goes to the index.
+/// The first transaction of a session, whose part is inserted at the index.
 fn insert(
     parts: &mut Vec<(Name, Vec<Txn>)>,
     alloc: Global,
@@ -319,7 +319,7 @@ fn is_same_session<B: Bounds>(one: &SnapshotWithin<B>, other: &SnapshotWithin<B>
     is_same_name(one.name(i), other.name(i)) && are_same_lists(one, other, i)
 }
 
-/// The transactions of the session at the index, of their own.
+/// A copy of the transactions of the session at the index.
 fn copied<B: Bounds>(
     alloc: Global,
     snapshot: &SnapshotWithin<B>,
@@ -337,7 +337,7 @@ fn copied<B: Bounds>(
     Ok(copy)
 }
 
-/// The sessions, of their own.
+/// A copy of the sessions.
 fn copied_parts<B: Bounds>(
     alloc: Global,
     snapshot: &SnapshotWithin<B>,
@@ -366,8 +366,7 @@ impl<B: Bounds> SnapshotWithin<B> {
         }
     }
 
-    /// The session has finished one more transaction, where there is room.
-    /// Refused, the snapshot is as it was.
+    /// The session has finished one more transaction, if there is room. If it is refused, the snapshot is as it was.
     pub fn add(&mut self, alloc: Global, session: Name, txn: Txn) -> Result<(), GrowFault>
         ensures added { OnOk result (self.new ≡ with_transaction self.old session txn) }
         ensures kept { OnErr result (self.new ≡ self.old) }
@@ -376,8 +375,8 @@ impl<B: Bounds> SnapshotWithin<B> {
         self.add_told(alloc, session, txn, KeyHints::none())
     }
 
-    /// The session has finished one more transaction, just as `add` has it. What is told of the keys saves their look-ups.
-    /// Each is compared, so nothing else depends on it.
+    /// The session has finished one more transaction, exactly as with `add`. The given numbers of keys save look-ups. Each is
+    /// compared, so nothing else depends on them.
     pub fn add_told(
         &mut self,
         alloc: Global,
@@ -402,8 +401,8 @@ impl<B: Bounds> SnapshotWithin<B> {
         }
     }
 
-    /// The snapshot in which each named session has finished these transactions.
-    /// Where they make none, it says why, and they come back as they were.
+    /// The snapshot in which each named session has finished these transactions. If they make none, the error says why and
+    /// returns them as they were.
     pub fn new(
         parts: Vec<(Name, Vec<Txn>)>,
     ) -> Result<SnapshotWithin<B>, (SnapshotFault, Vec<(Name, Vec<Txn>)>)>
@@ -452,14 +451,15 @@ impl<B: Bounds> SnapshotWithin<B> {
         self.sessions.finished(i)
     }
 
-    /// The transaction at an index, from 0, of the session at this one.
+    /// The transaction at an index, counted from 0, of the session at the index `i`.
     pub fn recorded(&self, i: u32, index: usize) -> Option<Recorded<'_>>
         ensures { result ≡ slice_get (finished_at self.now i) index }
     {
         self.sessions.recorded(i, index)
     }
 
-    /// The keys, and the number of the key of each operation: by session in byte order of the names, by place and by position.
+    /// The keys, and the number of the key of each operation: by session in byte order of the names, by transaction and by
+    /// position.
     pub fn key_numbers(&self, alloc: Global) -> Result<KeyNumbers, NoMemory>
         ensures { IfOk result (λ keys. AreNumbers keys.names.items keys.numbers.items (keys_in (sessions.entries self.now))) }
     {
@@ -484,7 +484,7 @@ impl<B: Bounds> SnapshotWithin<B> {
 }
 
 impl SnapshotWithin<SmallLimits> {
-    /// The sessions where they lie.
+    /// The sessions, by reference.
     fn plain(&self) -> &[(Name, Vec<Txn>)]
         ensures value { parts_of result.now ≡ sessions.entries self.now }
         ensures few { length result.now ≤ MAX_SESSIONS }
@@ -512,7 +512,7 @@ impl SnapshotWithin<SmallLimits> {
         self.plain()
     }
 
-    /// It keeps the small limits, for who has to know that.
+    /// It keeps the small limits, for callers that need this fact.
     pub fn keeps_limits(&self)
         ensures { KeepsLimits self.now }
     {
@@ -541,7 +541,7 @@ impl SnapshotWithin<LargeLimits> {
         sessions <= MAX_SESSIONS && transactions <= MAX_TRANSACTIONS
     }
 
-    /// A copy within the small limits, where it keeps them.
+    /// A copy within the small limits, if it keeps them.
     pub fn small_copy(&self, alloc: Global) -> Result<Option<Snapshot>, NoMemory>
         ensures { IfOk result (λ found. MatchOption found (KeepsLimits self.now → ⊥) (λ small. KeepsLimits self.now × (small ≡ self.now))) }
     {

@@ -1,4 +1,4 @@
-//! Where the sessions of a snapshot lie: each in a vector of its transactions, or packed.
+//! How the sessions of a snapshot are stored: each in a vector of its transactions, or packed.
 ghost use Rattle.std.specs.Prelude.{◌≡◌, ◌≤◌, ◌<◌, ◌⊎◌, ◌++◌, ◌∷◌, [], T, None, IfErr, IfOk, OnErr, OnOk, length, option_map, slice_get, unwrap_or};
 ghost use Rattle.std.specs.Cmp.Lexicographic.{slice_cmp};
 ghost use Rattle.std.specs.FinMap.Entries.{find, is_sorted, put};
@@ -49,7 +49,7 @@ fn recorded_at(txns: &[Txn], index: usize) -> Option<Recorded<'_>>
 }
 
 impl Storage {
-    /// No sessions, within the limits.
+    /// No sessions, with the storage that the limits ask for.
     pub(crate) fn new(alloc: Global, limits: Limits) -> Storage
         ensures parts { parts_in result ≡ [] }
         ensures plain { limits ≡ Small → IsPlain result }
@@ -90,7 +90,7 @@ impl Storage {
         }
     }
 
-    /// The transaction at an index, from 0, of the session at this one.
+    /// The transaction at an index, counted from 0, of the session at the index `i`.
     pub(crate) fn recorded(&self, i: u32, index: usize) -> Option<Recorded<'_>>
         ensures { result ≡ slice_get (listed_at (parts_in self.now) i) index }
     {

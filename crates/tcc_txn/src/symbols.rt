@@ -1,6 +1,6 @@
-//! A symbol table (interning of strings): each name is kept once, and told by its number from then on. A look-up asks a
-//! cache of numbers and compares one name; where that is another one it goes down a B-tree, by as many comparisons as
-//! the logarithm of their count.
+//! A symbol table (interning of strings): each name is kept once, and is its number from then on. A look-up asks a cache of
+//! numbers and compares one name. If that is another name, it searches a B-tree, with as many comparisons as the logarithm of
+//! the count.
 ghost use Rattle.std.specs.Prelude.{◌≡◌, ◌++◌, ◌∷◌, [], false, IfOk, IfSome, MatchOption, OnErr, OnOk, length};
 ghost use Rattle.tcc_txn.specs.{Nested.IsPrefix, Symbols.IsNumber, Symbols.is_symbol, Symbols.with_symbol};
 
@@ -29,7 +29,7 @@ impl Model for SymbolTable {
     ghost invariant = { λ t. HoldsNumbers t.names.items t.numbers };
 }
 
-/// The number that a count is. No memory holds so many that there would be none.
+/// A count as a number. Memory can't hold so many names that a count has none.
 pub(crate) fn number_of(count: usize) -> Result<u32, NoMemory>
     ensures { IfOk result (λ number. number ≡ count) }
 {
@@ -65,14 +65,14 @@ impl SymbolTable {
         &self.names
     }
 
-    /// The names, each at its number, given away.
+    /// The names, each at its number, by value.
     pub(crate) fn into_names(self) -> Vec<Name>
         ensures { result.items ≡ self }
     {
         self.names
     }
 
-    /// The number, where the name stands at it; none says nothing.
+    /// The number, if the name is at it. `None` says nothing about the name.
     fn checked(&self, name: &Name, number: u32) -> Option<u32>
         ensures { IfSome result (λ n. IsNumber self.now name.now n) }
     {
@@ -82,7 +82,7 @@ impl SymbolTable {
         }
     }
 
-    /// The number of a name that the cache knows; none says nothing.
+    /// The number of a name that the cache knows. `None` says nothing about the name.
     fn near(&self, name: &Name) -> Option<u32>
         ensures { IfSome result (λ n. IsNumber self.now name.now n) }
     {
@@ -99,7 +99,7 @@ impl SymbolTable {
         }
     }
 
-    /// The number of a name; none where it isn't there.
+    /// The number of a name; none if the table lacks it.
     pub fn find(&self, name: &Name) -> Option<u32>
         ensures { MatchOption result (is_symbol name.now self.now ≡ false) (λ n. IsNumber self.now name.now n) }
     {
@@ -120,14 +120,14 @@ impl SymbolTable {
         Ok(())
     }
 
-    /// Tells the cache a number.
+    /// Puts a number into the cache.
     fn note(&mut self, name: &Name, number: u32)
         ensures { self.new ≡ self.old }
     {
         self.nearby.put(name, number);
     }
 
-    /// One more name, behind the others.
+    /// One more name, after the others.
     fn push(&mut self, name: Name) -> Result<u32, NoMemory>
         requires { is_symbol name self.old ≡ false }
         ensures number { IfOk result (λ n. IsNumber self.new name n) }
@@ -149,7 +149,7 @@ impl SymbolTable {
         }
     }
 
-    /// The number of the name, which is one more if it isn't there.
+    /// The number of the name, which is added if the table lacks it.
     pub fn number(&mut self, name: Name) -> Result<u32, NoMemory>
         ensures number { IfOk result (λ n. IsNumber self.new name n) }
         ensures once { OnOk result (self.new ≡ with_symbol name self.old) }
@@ -165,7 +165,7 @@ impl SymbolTable {
         self.push(name)
     }
 
-    /// The number of the name, as `number` gives it. Where it is the one that is told, that costs no look-up.
+    /// The number of the name, as `number` returns it. If it is the given one, that costs no look-up.
     pub(crate) fn number_from(&mut self, name: Name, told: Option<u32>) -> Result<u32, NoMemory>
         ensures number { IfOk result (λ n. IsNumber self.new name n) }
         ensures once { OnOk result (self.new ≡ with_symbol name self.old) }
@@ -179,7 +179,7 @@ impl SymbolTable {
         self.number(name)
     }
 
-    /// Has these names too.
+    /// Adds these names too.
     pub(crate) fn learn(&mut self, names: &[Name]) -> Result<(), NoMemory>
         ensures { IsPrefix self.old self.new }
     {

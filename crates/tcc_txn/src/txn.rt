@@ -18,7 +18,7 @@ pub enum TxnFault {
     TooManyOps,
 }
 
-/// A finished transaction: up to `MAX_OPERATIONS` operations, of which none writes 0, and how it ended.
+/// A finished transaction: up to `MAX_OPERATIONS` operations, none of which writes 0, and how it ended.
 #[derive(Drop)]
 pub struct Txn {
     ops: Vec<Op>,
@@ -45,8 +45,7 @@ fn first_write_of_zero(ops: &[Op]) -> Option<usize>
 }
 
 impl Txn {
-    /// The transaction of these operations.
-    /// Where they make none, it says why, and they come back.
+    /// The transaction of these operations. If they make none, the error says why and returns them.
     pub fn new(ops: Vec<Op>, committed: bool) -> Result<Txn, (TxnFault, Vec<Op>)>
         ensures { MatchResult result
             (λ t. (txn_fault ops.items ≡ None) × (t.ops ≡ ops.items) × (t.committed ≡ committed))

@@ -1,4 +1,4 @@
--- How the fault of a text is told.
+-- How the fault of a text is reported.
 use Rattle.std.proofs.Common.{◌≡◌, ℕ, List, Bool, true, false, cond, Err, inl, inr, refl, sym, ap, ◌∙◌}
 use Rattle.tcc_cert.specs.declared.fault.CertFault.{CertFault}
 use Rattle.tcc_cert.specs.LargeReading.{is_large}
@@ -13,7 +13,7 @@ use Rattle.tcc_verdict.specs.private.LargeStages.{IsAnyStreamFault, IsLargeStrea
 no_memory : true ≡ false → ⊥
 no_memory h = cc
 
--- of a text that was found to be of version 3
+-- a text that was found to be of version 3
 pub large_fault : (bytes : List ℕ) (fault : CertFault) → IsLargeReading bytes (Err fault) → IsLargeStreamFault bytes (fault_of fault)
 large_fault bytes fault is = go (is_want_of_memory fault.kind) refl
   where
@@ -21,7 +21,7 @@ large_fault bytes fault is = go (is_want_of_memory fault.kind) refl
     go true e = tt
     go false e = (is, λ memory. no_memory (sym (ap is_want_of_memory memory) ∙ e))
 
--- of one whose first line is none
+-- a text whose first line is that of no version
 pub first_fault : (bytes : List ℕ) (fault : CertFault) → IsReading bytes (Err fault) × IsLargeReading bytes (Err fault)
     → IsAnyStreamFault bytes (fault_of fault)
 first_fault bytes fault both = go (is_want_of_memory fault.kind) refl
@@ -34,7 +34,7 @@ first_fault bytes fault both = go (is_want_of_memory fault.kind) refl
     go true e = tt
     go false e = (by_version (is_large bytes) refl, λ memory. no_memory (sym (ap is_want_of_memory memory) ∙ e))
 
--- a fault by its version is one of any
+-- a fault of a text of this version is one of a text of any version
 pub small_any : (bytes : List ℕ) (fault : StreamFault) → is_large bytes ≡ false → IsStreamFault bytes fault → IsAnyStreamFault bytes fault
 small_any bytes (Text fault) small is = (inl (small, is.0), is.1)
 small_any bytes NoMemory small is = tt

@@ -12,8 +12,8 @@ use Rattle.tcc_rules.specs.declared.stream_fault.StreamFault.TheVariants.{Text, 
 use Rattle.tcc_rules.specs.declared.verdict.Rule.{Rule}
 use Rattle.tcc_rules.specs.declared.verdict.Verdict.{Verdict}
 use Rattle.tcc_judge.specs.Verdicts.{rules_of}
-use Rattle.tcc_print.specs.declared.halt.Halt.{Halt}
-use Rattle.tcc_print.specs.private.Halts.{by_stream}
+use Rattle.tcc_print.specs.declared.run_error.RunError.{RunError}
+use Rattle.tcc_print.specs.private.RunErrors.{by_stream}
 use Rattle.tcc_verdict.specs.private.Stages.{MayBeOfText}
 use Rattle.tcc_verdict.specs.LargeChecks.{IsLargeTextCheck, IsVerdictFor, large_check}
 use Rattle.tcc_verdict.specs.private.LargeStages.{IsAnyStreamFault, IsJudgedLarge, IsJudgedText, IsSizedHistory, IsSizedVerdict, history_in}
@@ -31,7 +31,7 @@ verdict_for : (s : Sessions) (graph : SizedGraph) (c : Certificate) (v : Verdict
 verdict_for s (Small h) c v sized is = inl (sized.0, subst (λ h. IsVerdict h c v) sized.1 is)
 verdict_for s (Large h) c v sized is = inr (sized.0, is)
 
--- what was judged of a text is what comes of it
+-- a judgement of a text is the outcome of the text
 pub of_judgement : (s : Sessions) (graph : SizedGraph) (bytes : List ℕ) (j : LargeJudgement) → IsSizedHistory s graph
     → IsJudgedText graph bytes (Ok j) → IsLargeTextCheck s bytes (Ok j)
 of_judgement s graph bytes (judgement.Small j) sized is =
@@ -39,14 +39,14 @@ of_judgement s graph bytes (judgement.Small j) sized is =
 of_judgement s graph bytes (judgement.Large said v) sized is =
     (is.0, is.1.0, is.1.1, is.1.2, subst (λ h. IsVerdictOf (rules_of h is.1.0) v) (same_history s graph sized) is.1.3)
 
--- and so is its fault
-pub of_fault : (s : Sessions) (bytes : List ℕ) (fault : StreamFault) (o : Result LargeJudgement Halt) → IsAnyStreamFault bytes fault
+-- so is its fault
+pub of_fault : (s : Sessions) (bytes : List ℕ) (fault : StreamFault) (o : Result LargeJudgement RunError) → IsAnyStreamFault bytes fault
     → IsErrAnd o (λ why. why ≡ by_stream fault) → MayBeOfText large_check s bytes o
 of_fault s bytes fault (Ok j) fails is = absurd is
 of_fault s bytes (Text fault) (Err why) fails is = inl (subst (λ u. IsLargeTextCheck s bytes (Err u)) (sym is) fails)
 of_fault s bytes NoMemory (Err why) fails is = inr (ap Err is)
 
--- what is judged of a text of version 3 is what is judged of a text by its version
+-- a judgement of a text of version 3 is one of a text by its version
 pub of_large : (graph : SizedGraph) (bytes : List ℕ) (o : Result LargeJudgement StreamFault) → is_large bytes ≡ true
     → IsJudgedLarge (history_in graph) bytes o → IsJudgedText graph bytes o
 of_large graph bytes (Ok (judgement.Small j)) large is = absurd is

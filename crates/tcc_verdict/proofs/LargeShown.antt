@@ -18,14 +18,14 @@ use Rattle.tcc_judge.specs.Verdicts.{rules_of}
 use Rattle.tcc_judge.specs.declared.verdict.Rule.{Rule as LargeRule}
 use Rattle.tcc_print.specs.Statuses.{code_of, verdict_status}
 use Rattle.tcc_verdict.specs.Checking.{IsCheckRunBy}
-use Rattle.tcc_verdict.specs.private.Stages.{TellsHalts}
+use Rattle.tcc_verdict.specs.private.Stages.{TellsRunErrors}
 use Rattle.tcc_verdict.proofs.Shown.{Succeeds, run_succeeds}
 use Rattle.tcc_verdict.specs.LargeChecks.{IsLargeShown, IsLargeTextCheck, IsTrueLargeClaim, IsTrueText, IsVerdictFor, large_check}
 use Rattle.tcc_verdict.specs.LargeTexts.{large_status}
 use Rattle.tcc_verdict.specs.declared.large.judgement.LargeJudgement.{LargeJudgement}
 use Rattle.tcc_verdict.specs.declared.large.judgement.LargeJudgement.TheVariants.{Small, Large}
 
-pub large_tells : TellsHalts large_check
+pub large_tells : TellsRunErrors large_check
 large_tells = record { text = λ why. refl; status = λ why. refl }
 
 module _ (certified : (h : History) (k : Certificate) → Certifies h k → IsTrueClaim h k)

@@ -1,26 +1,27 @@
--- What is noted of an outcome, from what is noted at each stage.
+-- The notes of an outcome, from those of each stage.
 use Rattle.std.proofs.Common.{◌≡◌, ℕ, List, [], ◌∷◌, Bool, true, false, cond, Option, Ok, Err, inl, inr, refl, sym, subst}
 use Rattle.std.specs.Prelude.{Result, IsErrAnd}
 use Rattle.std.proofs.KnownBytes.{Appends-nil}
 use Rattle.std.specs.Io.KnownBytes.{Appends}
 use Rattle.tcc_txn.specs.Snapshots.{Sessions}
 use Rattle.tcc_txn.specs.declared.limits.Limits.{Limits}
-use Rattle.tcc_rows.specs.Answers.{answers_within}
+use Rattle.tcc_rows.specs.Answers.{answers_within, records_within}
 use Rattle.tcc_rows.specs.Items.{finished_in}
 use Rattle.tcc_rows.specs.Lines.{Record}
+use Rattle.tcc_rows.specs.Reached.{is_of_record, record_at}
 use Rattle.tcc_rows.specs.declared.fault.RowFault.{RowFault}
 use Rattle.tcc_rows.specs.declared.fault.RowFaultKind.{RowFaultKind}
 use Rattle.tcc_rows.specs.declared.fault.RowFaultKind.TheVariants as row_kind
 use Rattle.tcc_reads.specs.declared.fault.ResolveFault.{ResolveFault}
 use Rattle.tcc_reads.specs.declared.fault.ResolveFault.TheVariants as refusal
-use Rattle.tcc_print.specs.Halts.{by_row, is_memory}
-use Rattle.tcc_print.specs.private.Halts.{unresolved_by}
-use Rattle.tcc_print.specs.Notes.{AddsEach, read_notes, resolved_notes}
-use Rattle.tcc_print.specs.declared.halt.Halt.{Halt}
-use Rattle.tcc_print.specs.declared.halt.Halt.TheVariants.{Row, Reads, Text, NoMemory}
+use Rattle.tcc_print.specs.RunErrors.{by_row, is_memory}
+use Rattle.tcc_print.specs.private.RunErrors.{unresolved_by}
+use Rattle.tcc_print.specs.Notes.{AddsEach, IsNoted, read_notes, resolved_notes}
+use Rattle.tcc_print.specs.declared.run_error.RunError.{RunError}
+use Rattle.tcc_print.specs.declared.run_error.RunError.TheVariants.{Row, Reads, Text, NoMemory}
 use Rattle.tcc_verdict.specs.Checking.{Check}
-use Rattle.tcc_verdict.specs.Noting.{NotesHalt, NotesOutcome, snapshot_notes}
-use Rattle.tcc_verdict.specs.Stopping.{NotesStop}
+use Rattle.tcc_verdict.specs.Noting.{NotesRunError, NotesOutcome, snapshot_notes}
+use Rattle.tcc_verdict.specs.Stopping.{NotesStop, stop_note}
 use Rattle.tcc_verdict.specs.private.Stages.{IsCheckWithin, MayBeOfText, MayBeResolution}
 
 module _ (before after : Option (List ℕ)) where
@@ -30,39 +31,51 @@ module _ (before after : Option (List ℕ)) where
   none_added (text ∷ texts) is = (before, (0, Appends-nil before), none_added texts is)
 
   module _ {T : Type 0} (s : Sessions) where
-    -- what is noted of a refusal is what is noted of the snapshot that it is about
-    pub refusal_noted : (R : Type 0) (fault : ResolveFault) (o : Result T Halt) → IsErrAnd o (λ why. why ≡ unresolved_by fault)
+    -- the notes of a refusal are those of the snapshot that it is about
+    pub refusal_noted : (R : Type 0) (fault : ResolveFault) (o : Result T RunError) → IsErrAnd o (λ why. why ≡ unresolved_by fault)
         → AddsEach before after (resolved_notes {T = R} s (Err fault)) → AddsEach before after (snapshot_notes s o)
     refusal_noted R fault (Ok made) is noted = absurd is
     refusal_noted R (refusal.Reads faults) (Err why) is noted = subst (λ u. AddsEach before after (snapshot_notes {T = T} s (Err u))) (sym is) noted
     refusal_noted R refusal.NoMemory (Err why) is noted = subst (λ u. AddsEach before after (snapshot_notes {T = T} s (Err u))) (sym is) noted
 
-    -- of refused memory nothing is
-    pub memory_noted : (o : Result T Halt) → IsErrAnd o (λ why. why ≡ NoMemory) → Appends before after [] → AddsEach before after (snapshot_notes s o)
+    -- refused memory has none
+    pub memory_noted : (o : Result T RunError) → IsErrAnd o (λ why. why ≡ NoMemory) → Appends before after [] → AddsEach before after (snapshot_notes s o)
     memory_noted (Ok made) is none = absurd is
     memory_noted (Err why) is none = subst (λ u. AddsEach before after (snapshot_notes {T = T} s (Err u))) (sym is) none
+
+  -- where the fault is one of a record, the note shows the record at its row, if this was read last
+  pub fault_shown : (limits : Limits) (fault : RowFault) (last fields : Record) → (is_of_record fault.kind ≡ true → last ≡ fields)
+      → NotesStop limits fault last before after → NotesStop limits fault fields before after
+  fault_shown limits fault last fields same stops = by_test (is_of_record fault.kind) refl
+    where
+      none : is_of_record fault.kind ≡ false → stop_note limits fault last ≡ stop_note limits fault fields
+      none e = rw e refl
+
+      by_test : (b : Bool) → is_of_record fault.kind ≡ b → NotesStop limits fault fields before after
+      by_test true e = subst (λ shown. NotesStop limits fault shown before after) (same e) stops
+      by_test false e = record { noted = λ some. subst (IsNoted before after) (none e) (stops.noted some); refused = stops.refused }
 
   -- ---- of the records
 
   module _ (limits : Limits) (records : List ℕ) where
     module _ {T : Type 0} where
-      -- of the fault of a record its own note, and of refused memory none
-      pub fault_noted : (fault : RowFault) (o : Result T Halt) → IsErrAnd o (λ why. why ≡ by_row fault) → (last : Record)
-          → NotesStop limits fault last before after → NotesOutcome limits records o before after
-      fault_noted fault (Ok made) is last stops = absurd is
-      fault_noted fault (Err why) is last stops =
-          subst (λ u. NotesHalt limits records u before after) (sym is) (by_test (is_memory fault.kind) refl)
+      -- the fault of a record has its own note, and refused memory has none
+      pub fault_noted : (fault : RowFault) (o : Result T RunError) → IsErrAnd o (λ why. why ≡ by_row fault)
+          → NotesStop limits fault (record_at fault.row (records_within limits records)) before after → NotesOutcome limits records o before after
+      fault_noted fault (Ok made) is stops = absurd is
+      fault_noted fault (Err why) is stops =
+          subst (λ u. NotesRunError limits records u before after) (sym is) (by_test (is_memory fault.kind) refl)
         where
           memory : (k : RowFaultKind) → is_memory k ≡ true → k ≡ row_kind.NoMemory
           memory row_kind.NoMemory e = refl
           memory _ e = cc e
 
-          by_test : (b : Bool) → is_memory fault.kind ≡ b → NotesHalt limits records (cond b NoMemory (Row fault)) before after
+          by_test : (b : Bool) → is_memory fault.kind ≡ b → NotesRunError limits records (cond b NoMemory (Row fault)) before after
           by_test true e = subst (λ now. Appends before now []) (sym (stops.refused (memory fault.kind e))) (Appends-nil before)
-          by_test false e = (last, stops)
+          by_test false e = stops
 
-      -- what is noted of the snapshot that they finish
-      pub snapshot_noted : (is_made : Sessions → T → Type 0) (s : Sessions) (o : Result T Halt)
+      -- the notes of the snapshot that they finish
+      pub snapshot_noted : (is_made : Sessions → T → Type 0) (s : Sessions) (o : Result T RunError)
           → s ≡ finished_in (answers_within limits records).items → MayBeResolution is_made s o → AddsEach before after (snapshot_notes s o)
           → NotesOutcome limits records o before after
       snapshot_noted is_made s (Ok made) same may noted = noted
@@ -75,14 +88,14 @@ module _ (before after : Option (List ℕ)) where
     -- ---- of both
 
     module _ {J : Type 0} where
-      -- what is noted of records of which nothing is made
-      pub halt_noted : (why : Halt) (o : Result J Halt) → IsErrAnd o (λ u. u ≡ why) → NotesHalt limits records why before after
+      -- the notes of records of which nothing is made
+      pub run_error_noted : (why : RunError) (o : Result J RunError) → IsErrAnd o (λ u. u ≡ why) → NotesRunError limits records why before after
           → NotesOutcome limits records o before after
-      halt_noted why (Ok judged) is noted = absurd is
-      halt_noted why (Err u) is noted = subst (λ v. NotesHalt limits records v before after) (sym is) noted
+      run_error_noted why (Ok judged) is noted = absurd is
+      run_error_noted why (Err u) is noted = subst (λ v. NotesRunError limits records v before after) (sym is) noted
 
-      -- and nothing more of a certificate
-      pub text_noted : (check : Check J) → IsCheckWithin limits check → (s : Sessions) (text : List ℕ) (o : Result J Halt) → MayBeOfText check s text o
+      -- a certificate adds none
+      pub text_noted : (check : Check J) → IsCheckWithin limits check → (s : Sessions) (text : List ℕ) (o : Result J RunError) → MayBeOfText check s text o
           → Appends before after [] → NotesOutcome limits records o before after
       text_noted check within s text (Ok judged) may none = none
       text_noted check within s text (Err (Reads faults)) may none = none_added _ none

@@ -17,13 +17,13 @@ use Rattle.tcc_check.specs.Verdicts.{IsVerdict, IsTrueClaim}
 use Rattle.tcc_rules.specs.declared.verdict.Rule.{Rule}
 use Rattle.tcc_rules.specs.declared.verdict.Verdict.{Verdict}
 use Rattle.tcc_rules.specs.declared.verdict.Verdict.TheVariants as verdict
-use Rattle.tcc_print.specs.declared.halt.Halt.{Halt}
-use Rattle.tcc_print.specs.declared.halt.Halt.TheVariants.{Row, Reads, Text, NoMemory}
+use Rattle.tcc_print.specs.declared.run_error.RunError.{RunError}
+use Rattle.tcc_print.specs.declared.run_error.RunError.TheVariants.{Row, Reads, Text, NoMemory}
 use Rattle.tcc_print.specs.declared.status.Status.TheVariants as status
-use Rattle.tcc_print.specs.Statuses.{certificate_status, code_of, halt_status, row_status, verdict_status}
+use Rattle.tcc_print.specs.Statuses.{certificate_status, code_of, run_error_status, row_status, verdict_status}
 use Rattle.tcc_print.specs.Printed.{Prints, PrintsOrMemory, memory_line}
 use Rattle.tcc_verdict.specs.Checking.{Check, IsOfRecords, IsCheckRunBy, MayBe, PrintsOutcome}
-use Rattle.tcc_verdict.specs.private.Stages.{TellsHalts}
+use Rattle.tcc_verdict.specs.private.Stages.{TellsRunErrors}
 use Rattle.tcc_verdict.specs.Checks.{IsCheckRun, IsShown, small_check}
 
 -- ---- of any check
@@ -38,12 +38,12 @@ text_fails : (k : CertFaultKind) → code_of (certificate_status k) ≡ 0 → �
 text_fails text_kind.Read h = cc
 text_fails _ h = cc
 
--- nor whatever else stands in the place of a verdict
-halt_fails : (why : Halt) → code_of (halt_status why) ≡ 0 → ⊥
-halt_fails (Row fault) h = row_fails fault.kind h
-halt_fails (Reads faults) h = cc
-halt_fails (Text fault) h = text_fails fault.kind h
-halt_fails NoMemory h = cc
+-- nor whatever else is printed in place of a verdict
+run_error_fails : (why : RunError) → code_of (run_error_status why) ≡ 0 → ⊥
+run_error_fails (Row fault) h = row_fails fault.kind h
+run_error_fails (Reads faults) h = cc
+run_error_fails (Text fault) h = text_fails fault.kind h
+run_error_fails NoMemory h = cc
 
 not_zero : code_of status.Device ≡ 0 → ⊥
 not_zero h = cc
@@ -70,10 +70,10 @@ module _ {J : Type 0} (check : Check J) (records text : List ℕ) where
   judged_run judged (inr (inl fails)) success = let e = fails.2 in let bad : ⊥ = cc in absurd bad
   judged_run judged (inr (inr memory)) success = let bad : ⊥ = cc in absurd bad
 
-  module _ (tells : TellsHalts check) where
-    outcome_succeeds : (o : Result J Halt) → MayBe check records text o → code_of (check.status o) ≡ 0 → Succeeds check records text
+  module _ (tells : TellsRunErrors check) where
+    outcome_succeeds : (o : Result J RunError) → MayBe check records text o → code_of (check.status o) ≡ 0 → Succeeds check records text
     outcome_succeeds (Ok judged) may success = judged_run judged may success
-    outcome_succeeds (Err why) may success = absurd (halt_fails why (subst (λ s. code_of s ≡ 0) (tells.status why) success))
+    outcome_succeeds (Err why) may success = absurd (run_error_fails why (subst (λ s. code_of s ≡ 0) (tells.status why) success))
 
     -- a run that ends with success has such a judgement
     pub run_succeeds : (before after : Option (List ℕ)) (code : ℕ) → IsCheckRunBy check records text before after code → code ≡ 0
@@ -81,7 +81,7 @@ module _ {J : Type 0} (check : Check J) (records text : List ℕ) where
     run_succeeds before after code (o, may, inl whole) zero = outcome_succeeds o may (sym whole.1 ∙ zero)
     run_succeeds before after code (o, may, inr part) zero = absurd (not_zero (sym part.1 ∙ zero))
 
-module _ {J : Type 0} (check : Check J) (tells : TellsHalts check) (before after : Option (List ℕ)) (o : Result J Halt) (code : ℕ) where
+module _ {J : Type 0} (check : Check J) (tells : TellsRunErrors check) (before after : Option (List ℕ)) (o : Result J RunError) (code : ℕ) where
   memory : Prints before after (memory_line false) status.Memory code
       → Prints before after (check.text (Err NoMemory)) (check.status (Err NoMemory)) code
   memory prints =
@@ -101,7 +101,7 @@ module _ {J : Type 0} (check : Check J) (tells : TellsHalts check) (before after
 
 -- ---- of the check within the small limits
 
-pub small_tells : TellsHalts small_check
+pub small_tells : TellsRunErrors small_check
 small_tells = record { text = λ why. refl; status = λ why. refl }
 
 module _ (certified : (h : History) (k : Certificate) → Certifies h k → IsTrueClaim h k) where

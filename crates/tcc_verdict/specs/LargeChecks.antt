@@ -1,4 +1,4 @@
--- What comes of a history within the large limits and a certificate of any version.
+-- The outcome for a history within the large limits and a certificate of any version.
 use Rattle.std.specs.Prelude.{ℕ, ◌≡◌, ◌≢◌, ◌⊎◌, true, false, List, [], None, Result, Ok, Err, MatchOption, is_some}
 use Rattle.tcc_txn.specs.Finished.{KeepsLimits}
 use Rattle.tcc_txn.specs.Snapshots.{Sessions}
@@ -29,8 +29,8 @@ use Rattle.tcc_rules.specs.declared.verdict.Verdict.TheVariants as verdict
 use Rattle.tcc_judge.specs.Runs.{order_of}
 use Rattle.tcc_rules.specs.Asked.{IsVerdictOf}
 use Rattle.tcc_judge.specs.Verdicts.{rules_of}
-use Rattle.tcc_print.specs.declared.halt.Halt.{Halt}
-use Rattle.tcc_print.specs.declared.halt.Halt.TheVariants.{Text}
+use Rattle.tcc_print.specs.declared.run_error.RunError.{RunError}
+use Rattle.tcc_print.specs.declared.run_error.RunError.TheVariants.{Text}
 use Rattle.tcc_verdict.specs.Checking.{Check}
 use Rattle.tcc_verdict.specs.LargeTexts.{large_check_status, large_check_text}
 use Rattle.tcc_verdict.specs.declared.large.judgement.LargeClaim.{LargeClaim}
@@ -38,13 +38,13 @@ use Rattle.tcc_verdict.specs.declared.large.judgement.LargeClaim.TheVariants as 
 use Rattle.tcc_verdict.specs.declared.large.judgement.LargeJudgement.{LargeJudgement}
 use Rattle.tcc_verdict.specs.declared.large.judgement.LargeJudgement.TheVariants.{Small, Large}
 
--- what a certificate of version 3 claims, without all by which the claim is judged
+-- what a certificate of version 3 claims, without the parts by which the claim is judged
 abbrev pub large_claim_of : LargeCertificate → LargeClaim
 large_claim_of (certificate.Order k) = claim.Order
 large_claim_of (certificate.Cycle k) = claim.Cycle k.cost (is_some k.least)
 
--- the verdict on a certificate of version 1 or 2: within the small limits by its rules; past them it is rejected by the one on sizes,
--- since these versions are of histories within them
+-- The verdict on a certificate of version 1 or 2. For a history within the small limits it is that by the rules. For any other the
+-- certificate is rejected by the rule on sizes, since these versions are for histories within them.
 abbrev pub IsVerdictFor : Sessions → Certificate → Verdict Rule → Type 0
 IsVerdictFor s c v = (KeepsLimits s × IsVerdict (history s) c v) ⊎ ((KeepsLimits s → ⊥) × (v ≡ verdict.Rejected Sizes (0, 0)))
 
@@ -52,9 +52,9 @@ IsVerdictFor s c v = (KeepsLimits s × IsVerdict (history s) c v) ⊎ ((KeepsLim
 abbrev pub IsTextFault : List ℕ → CertFault → Type 0
 IsTextFault text fault = ((is_large text ≡ false) × IsReading text (Err fault)) ⊎ ((is_large text ≡ true) × IsLargeReading text (Err fault))
 
--- what comes of the certificate's text for a snapshot whose reads all have sources: by its version the claim of the certificate
--- that it is the text of, and the verdict on that certificate; else its first fault, or that of a reader that failed before
-abbrev pub IsLargeTextCheck : Sessions → List ℕ → Result LargeJudgement Halt → Type 0
+-- The outcome of a certificate's text, for a snapshot whose reads all have sources. It is the claim of the certificate with this text,
+-- by its version, and the verdict on that certificate. Else it is the first fault of the text, or that of a reader that failed before.
+abbrev pub IsLargeTextCheck : Sessions → List ℕ → Result LargeJudgement RunError → Type 0
 IsLargeTextCheck s text (Ok (Small j)) =
     (is_large text ≡ false) × (c : Certificate) × (certificate_read text ≡ Ok c) × (j.claim ≡ claim_of c) × IsVerdictFor s c j.verdict
 IsLargeTextCheck s text (Ok (Large said v)) =
@@ -74,8 +74,8 @@ large_check = record {
 
 -- ---- what is shown
 
--- what a certificate of version 3 claims is true at its level: its runs tell a commit order; or its links are a cycle of the cost
--- that is claimed, and a least one where that is claimed
+-- What a certificate of version 3 claims is true at its level. Its runs are those of a commit order; or its links are a cycle of the
+-- claimed cost, and a least one where that is claimed.
 abbrev pub IsTrueLargeClaim : History → LargeCertificate → Type 0
 IsTrueLargeClaim h (certificate.Order k) = IsCommitOrder (judged h k.level) (order_of h k.runs)
 IsTrueLargeClaim h (certificate.Cycle k) =

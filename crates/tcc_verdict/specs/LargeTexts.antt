@@ -5,16 +5,16 @@ use Rattle.tcc_judge.specs.Verdicts.{rule_number}
 use Rattle.tcc_judge.specs.declared.verdict.Rule.{Rule}
 use Rattle.tcc_rules.specs.declared.verdict.Verdict.{Verdict}
 use Rattle.tcc_rules.specs.declared.verdict.Verdict.TheVariants as verdict
-use Rattle.tcc_print.specs.Statuses.{halt_status, verdict_status}
-use Rattle.tcc_print.specs.Texts.{accepted_text, halt_text, rejected_text, verdict_text}
-use Rattle.tcc_print.specs.declared.halt.Halt.{Halt}
+use Rattle.tcc_print.specs.Statuses.{run_error_status, verdict_status}
+use Rattle.tcc_print.specs.Texts.{accepted_text, run_error_text, rejected_text, verdict_text}
+use Rattle.tcc_print.specs.declared.run_error.RunError.{RunError}
 use Rattle.tcc_print.specs.declared.status.Status.{Status}
 use Rattle.tcc_verdict.specs.declared.large.judgement.LargeClaim.{LargeClaim}
 use Rattle.tcc_verdict.specs.declared.large.judgement.LargeClaim.TheVariants.{Order, Cycle}
 use Rattle.tcc_verdict.specs.declared.large.judgement.LargeJudgement.{LargeJudgement}
 use Rattle.tcc_verdict.specs.declared.large.judgement.LargeJudgement.TheVariants.{Small, Large}
 
--- what is claimed in versions 1 and 2 too is told as it is of them; else accepted: cycle, L steps, least not claimed
+-- a claim that versions 1 and 2 have too is printed as theirs is; else accepted: cycle, L steps, least not claimed
 abbrev pub large_accepted_text : LargeClaim → List ℕ
 large_accepted_text Order = accepted_text claim.Order
 large_accepted_text (Cycle cost true) = accepted_text (claim.Cycle cost)
@@ -35,10 +35,10 @@ large_status (Small judged) = verdict_status judged.verdict
 large_status (Large k v) = verdict_status v
 
 -- what a run of check --large prints, and how it ends
-abbrev pub large_check_text : Result LargeJudgement Halt → List ℕ
+abbrev pub large_check_text : Result LargeJudgement RunError → List ℕ
 large_check_text (Ok judged) = large_verdict_text judged
-large_check_text (Err why) = halt_text why
+large_check_text (Err why) = run_error_text why
 
-abbrev pub large_check_status : Result LargeJudgement Halt → Status
+abbrev pub large_check_status : Result LargeJudgement RunError → Status
 large_check_status (Ok judged) = large_status judged
-large_check_status (Err why) = halt_status why
+large_check_status (Err why) = run_error_status why

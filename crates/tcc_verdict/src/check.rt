@@ -11,14 +11,14 @@ use tcc_base::{Progress, Unwatched};
 use tcc_check::judge_stream;
 use tcc_check::laws::certified;
 use tcc_graph::Graph;
-use tcc_print::Halt;
+use tcc_print::RunError;
 use tcc_print::notes::note_reads;
 use tcc_print::printing::print_check;
 use tcc_reads::{ResolveFault, resolve};
 use tcc_rules::Judgement;
 use tcc_txn::{Bounds, SmallLimits, Snapshot, SnapshotWithin};
 
-/// What the resolver answered of a snapshot; of the first read faults it is noted which write each of them is about.
+/// The resolver's answer for a snapshot. Notes which write each of the first read faults is about.
 pub fn noted<T, B: Bounds, N: Write>(
     alloc: Global,
     snapshot: &SnapshotWithin<B>,
@@ -34,8 +34,8 @@ pub fn noted<T, B: Bounds, N: Write>(
     resolved
 }
 
-/// What the certificate claims whose text the reader gives, and the verdict on it. The text is judged as it comes.
-fn judged<R: Read + Drop>(alloc: Global, graph: &Graph, reader: R) -> Result<Judgement, Halt>
+/// The claim of the certificate whose text the reader gives, and the verdict on it. The text is judged while it is read.
+fn judged<R: Read + Drop>(alloc: Global, graph: &Graph, reader: R) -> Result<Judgement, RunError>
     ensures { IfSome (R.remaining reader) (λ text. MayBeTextCheck graph.now text result) }
 {
     let judgement = judge_stream(alloc, graph, reader)?;
@@ -57,7 +57,11 @@ impl Checker for Graph {
 
     ghost fits = { record { limited = refl; tells = record { text = λ why. refl; status = λ why. refl }; passed = λ s text fault row. row } };
 
-    fn graph_of<N: Write>(alloc: Global, snapshot: &Snapshot, notes: &mut N) -> Result<Self, Halt> {
+    fn graph_of<N: Write>(
+        alloc: Global,
+        snapshot: &Snapshot,
+        notes: &mut N,
+    ) -> Result<Self, RunError> {
         let resolved = noted(alloc, snapshot, resolve(alloc, snapshot), notes)?;
         let graph = Graph::build(alloc, resolved)?;
         Ok(graph)
@@ -68,18 +72,18 @@ impl Checker for Graph {
         alloc: Global,
         reader: R,
         _progress: &P,
-    ) -> Result<Judgement, Halt> {
+    ) -> Result<Judgement, RunError> {
         judged(alloc, self, reader)
     }
 
-    fn print<W: Write>(alloc: Global, outcome: &Result<Judgement, Halt>, out: &mut W) -> u8 {
+    fn print<W: Write>(alloc: Global, outcome: &Result<Judgement, RunError>, out: &mut W) -> u8 {
         print_check(alloc, outcome, out)
     }
 }
 
-/// Writes the verdict on the certificate for the history, or the first fault of the two, and gives the status of the
-/// run. Only where what the certificate claims is true is the status 0. What to mend, where records or reads have faults, goes
-/// to the notes.
+/// Writes the verdict on the certificate for the history, or the first fault of the two, and returns the status of the
+/// run. The status is 0 only where the claim of the certificate is true. Where records or reads have faults, the notes say what
+/// to mend.
 pub fn run_check<H: Read + Drop, C: Read + Drop, W: Write, N: Write>(
     alloc: Global,
     history: H,

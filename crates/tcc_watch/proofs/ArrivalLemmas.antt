@@ -1,4 +1,4 @@
--- What has come: a transaction more, one delivered, and what may be told.
+-- What has come: one transaction more, one delivered, and what may be answered.
 use Rattle.std.proofs.Common.{ℕ, ◌≡◌, ◌++◌, inl, inr, Bool, true, false, List, [], ◌∷◌, get_or, set, refl, sym, ap, subst, ◌∙◌, arith}
 use Rattle.std.specs.Prelude.{IfSome, Option, None, Some}
 use Rattle.std.specs.FinMap.{empty}

@@ -86,6 +86,7 @@ module _ (sessions : List (List ℕ)) where
     };
     writers = λ x. subst (λ (z : List SessionWriters). AreWriters h 1 x z) (sym (writers x)) (record {
       each = λ i e inside. absurd (omega (arith, inside));
+      last = λ i e inside. absurd (omega (arith, inside));
       all = λ b some below is. absurd (omega (arith, some, below));
     });
   }

@@ -13,17 +13,15 @@ use Rattle.std.proofs.lemmas.List.Folds.{list_any_at}
 use Rattle.tcc_graph.proofs.NameLemmas.{bytes_eq-same}
 use Rattle.tcc_watch.specs.Delivered.{IsDelivered, MayCome, with_last}
 use Rattle.tcc_watch.specs.declared.at.At.{At}
-use Rattle.tcc_watch.specs.declared.linking.SessionWriters.{SessionWriters}
 use Rattle.tcc_watch.specs.declared.tables.Tables.{Tables}
 use Rattle.tcc_watch.specs.declared.delivered.Delivered.{Delivered}
 use Rattle.tcc_watch.specs.private.Rows.{AreStands, AreMembers, OrdersLinks}
-use Rattle.tcc_watch.specs.private.Links.{IsClosure, OrdersReasons, AreWriters, IsLinked, Reading}
+use Rattle.tcc_watch.specs.private.Links.{IsClosure, OrdersReasons, IsLinked}
 use Rattle.tcc_watch.specs.private.Tables.{AreClocks, AreLaid, HasArrived, Arriving, after}
-use Rattle.tcc_watch.specs.private.Writers.{AreKeyWriters, WriterMap, lists_in}
-use Rattle.tcc_watch.specs.private.Delivering.{CanLinkKey, OrdersReads, AreReadsLinked, reading_of, HasDelivered}
-use Rattle.tcc_watch.proofs.Arrived.{count_more, old_entry, new_entry, old_owner, more}
+use Rattle.tcc_watch.specs.private.Writers.{AreKeyWriters, WriterMap}
+use Rattle.tcc_watch.specs.private.Delivering.{OrdersReads, AreReadsLinked, reading_of, HasDelivered}
+use Rattle.tcc_watch.proofs.Arrived.{count_more, old_entry, new_entry, old_owner, old_place, more}
 use Rattle.tcc_watch.proofs.NoCycle.{no_cycle}
-use Rattle.tcc_watch.proofs.Settled.{reasons_done}
 use Rattle.tcc_watch.proofs.TableLemmas.{all_in_order}
 use Rattle.tcc_watch.proofs.Rising.{read_of}
 
@@ -47,6 +45,7 @@ module _ (h : History) (e : Entry) where
       written = λ k within. writes_still _ x (w.below k within) (w.written k within);
       rising = w.rising;
     };
+    last = λ i d inside k within. let w = (right x).each i d inside in omega (arith, (right x).last i d inside k within, old_place h e _ (w.below k within));
     all = λ b some below is. (right x).all b some below (wrote b x below is);
   }
 
@@ -67,17 +66,6 @@ module _ (h : History) (e : Entry) where
 -- a list has each of its names
 pub contains_name : (names : List (List ℕ)) (x : List ℕ) → Contains names x → has_name names x ≡ true
 contains_name names x (i, inside, is) = list_any_at (bytes_eq x) names i x inside (subst (λ (z : List ℕ). bytes_eq x z ≡ true) (sym is) (bytes_eq-same x x refl))
-
--- a key that nobody but `init` has written brings nothing new
-pub nobody_wrote : (r : Reading) (rows : List (List ℕ)) (stands : List At) (members : List (List ℕ)) (writers : WriterMap) (clock key : List ℕ) (a : ℕ)
-    → CanLinkKey r rows stands members writers clock key a → lists_in writers key ≡ [] → IsLinked r rows rows a true
-nobody_wrote r rows stands members writers clock key a can none = (
-  can.reading.closure,
-  (λ u v at_u at_v up. up),
-  reasons_done r rows rows stands members [] clock a
-      (record { reading = can.reading; right = subst (λ (z : List SessionWriters). AreWriters r.history r.reader r.key z) none can.right })
-      (λ i d inside. absurd (omega (arith, inside))),
-)
 
 -- the reads so far, and one more
 pub reads_more : (a : Arriving) (old new : List (List ℕ)) (reads : List (List ℕ × ℕ)) (index : ℕ) (read : List ℕ × ℕ) → index < length reads

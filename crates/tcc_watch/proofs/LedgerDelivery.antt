@@ -33,7 +33,7 @@ one_stand s n t u (i, l, at, is) (j, m, also, too) =
     sym is ∙ get_or_default (committed (stands s)) i t u l ∙ ap (λ (z : ℕ). get_or (committed (stands s)) z u) same ∙ too
 
 module _ (s : Sessions) (names : List (List ℕ)) (h : History) (ledger : IsLedger (list_of s) names h) where
-  -- the transaction of a number of the ledger, where it stands in the snapshot
+  -- the transaction of a number of the ledger, with its session and place in the snapshot
   pub record IsOf (n : ℕ) : Type 0 where
     pub stand : Stand
     pub m : ℕ
@@ -69,7 +69,7 @@ module _ (s : Sessions) (names : List (List ℕ)) (h : History) (ledger : IsLedg
   zeroth (inl some) d = absurd (omega (arith, some))
   zeroth (inr none) d = refl
 
-  -- where it stands, by this number
+  -- its session and place, by this number
   record IsKnown (n : ℕ) (m : ℕ) : Type 0 where
     stand : Stand
     number : IsNumber s m stand

@@ -101,7 +101,7 @@ module _ (s : Sessions) where
           (u.0, u.1, u.2 ∙ w.2, u.3, u.4)
 
   module _ (names : List (List ℕ)) (h : History) (ledger : IsLedger (list_of s) names h) where
-    -- where a site stands
+    -- the place of a site
     own : (site : Site) → Contains (sites (stands s)) site → (t : Stand) × Contains (stands s) t × Contains (sites_of t) site × (site.stand ≡ t)
     own site there =
         let r = from_flat_map sites_of (stands s) site there in

@@ -1,3 +1,5 @@
+pub mod Numbers
+pub mod ByNumber
 pub mod Raised
 pub mod NoCycle
 pub mod Rising

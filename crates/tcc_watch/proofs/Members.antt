@@ -1,4 +1,4 @@
--- The rows of a session's transactions: they go further and further, and raised session by session they are raised.
+-- The rows of a session's transactions: a later one goes at least as far. Rows that are raised session by session are all raised.
 use Rattle.std.proofs.Common.{ℕ, ◌+◌, ◌≡◌, ◌<◌, ◌≤◌, ◌⊎◌, inl, inr, List, [], length, slice_index, refl, sym, ap, subst, ◌∙◌, arith}
 use Rattle.std.specs.List.{Contains}
 use Rattle.std.proofs.lemmas.Bool.{cases_lt, cases_eq}
@@ -10,7 +10,7 @@ use Rattle.tcc_watch.specs.declared.at.At.{At}
 use Rattle.tcc_watch.specs.private.Rows.{last_in, GoesTo, IsUpTo, IsPlaceOf, AreOrdered, AreMembers, AreRising, IsRaisedRow, AreRaised, AreRaisedBelow, IsRaisedAt, IsRaised}
 
 module _ (h : History) (rows : List (List ℕ)) (members : List (List ℕ)) (delivered : IsDelivered h) (ordered : AreOrdered h rows) (right : AreMembers h members) where
-  -- `init` stands before all
+  -- `init` comes before all
   pub place_of_init : place h 0 ≡ 0
   place_of_init = ap (λ (e : Entry). e.place) delivered.first
 
@@ -78,7 +78,7 @@ module _ (h : History) (rows : List (List ℕ)) (members : List (List ℕ)) (del
 
       module _ (at_b at_a : At) (is_b : (at_b.session ≡ owner h b) × (at_b.place ≡ place h b)) (is_a : (at_a.session ≡ owner h a) × (at_a.place ≡ place h a))
           (new : List (List ℕ)) (more : AreRaised at_a at_b (row_of rows b) now new numbers) where
-        -- what a row of a member tells of a transaction where it stands
+        -- what the row of a member says of a transaction, by its session and place
         goes : (at : At) (n v : ℕ) → (at.session ≡ owner h n) × (at.place ≡ place h n) → row_of now v ≡ row_of rows v → GoesTo at (row_of now v) → IsUpTo h rows n v
         goes at n v is same there =
             let one = ap (λ (r : List ℕ). slice_index r at.session) same in

@@ -1,4 +1,4 @@
--- Of a snapshot one thing alone is told at a level.
+-- A snapshot has only one verdict at a level.
 use Rattle.std.proofs.Common.{◌≡◌, refl}
 use Rattle.tcc_txn.specs.Snapshots.{Sessions}
 use Rattle.tcc_graph.specs.declared.level.Level.{Level}

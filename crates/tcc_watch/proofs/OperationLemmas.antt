@@ -1,13 +1,11 @@
 -- The operations of a transaction, one after the other.
 use Rattle.std.proofs.Common.{ℕ, zero, suc, ◌+◌, ◌≡◌, ◌<◌, ◌≤◌, ◌==◌, ◌⊎◌, inl, inr, Bool, true, false, cond, List, [], ◌∷◌, ◌++◌, length, length-append, get_or, take, refl, sym, ap, subst, ◌∙◌, arith}
 use Rattle.std.specs.Prelude.{Option, Some, None}
-use Rattle.std.specs.BTreeMap.{Updates, is_at}
 use Rattle.std.specs.Cmp.Lexicographic.{nat_list_eq_equiv, pointwise}
 use Rattle.std.specs.List.{Contains}
-use Rattle.std.specs.Str.{bytes_eq}
 use Rattle.std.specs.Prelude.{nat_eq}
 use Rattle.std.proofs.Math.ListN.{get_or-append}
-use Rattle.std.proofs.lemmas.Bool.{and_parts, cases_Bool, cases_eq, cases_lt, eqb-true, false≢true}
+use Rattle.std.proofs.lemmas.Bool.{cases_Bool, cases_eq, cases_lt, false≢true}
 use Rattle.std.proofs.lemmas.List.{get_or_default, get_or_push, take_more}
 use Rattle.std.proofs.lemmas.List.Elements.{Contains-append_left, Contains-get_or, Contains-push, Contains-push_cases}
 use Rattle.std.proofs.lemmas.Map.Views.{list_any-from_Contains}
@@ -15,12 +13,10 @@ use Rattle.tcc_txn.specs.Symbols.{is_symbol}
 use Rattle.tcc_txn.specs.declared.op.Op.{Op}
 use Rattle.tcc_txn.specs.declared.op.Op.TheVariants.{Get, Put}
 use Rattle.tcc_txn.proofs.SortedParts.{same_names}
-use Rattle.tcc_reads.specs.Sources.{pair_cmp, visible_write}
-use Rattle.tcc_reads.proofs.Rewrites.{pairs_tie}
-use Rattle.tcc_reads.proofs.Ties.{same_name}
+use Rattle.tcc_reads.specs.Sources.{visible_write}
 use Rattle.tcc_watch.specs.Ledger.{IsRead, ReadsExternally}
 use Rattle.tcc_watch.specs.private.Operations.{AddsKey, AreKeys}
-use Rattle.tcc_watch.specs.private.Values.{AddsRead, AddsSource, AreNoted, AreSourcesBelow, AreUnwrittenBelow, NotesValue, ValueMap, is_unwritten, noted, number_shown, source_in}
+use Rattle.tcc_watch.specs.private.Values.{AddsRead, AddsSource, AreNoted, AreSourcesBelow, AreUnwrittenBelow, Notes, NotesValue, ValueMap, is_unwritten, noted, number_shown, source_in}
 use Rattle.tcc_watch.proofs.LedgerSites.{any_of}
 use Rattle.tcc_watch.proofs.ValueLemmas.{writes_or_not}
 
@@ -222,11 +218,10 @@ module _ (ops : List Op) (number : Option ℕ) where
       none y u (zero, l, e) = absurd cc
       none y u (suc k, l, e) = absurd (omega (arith, l))
 
-  pub value_noted : (x : List ℕ) (v : ℕ) (old new : ValueMap) (o : Option ℕ) → o ≡ number_shown ops number x v → Updates pair_cmp old new (x, v) (Some o)
-      → NotesValue ops number (Put x v) old new
-  value_noted x v old new o is updates = record {
+  pub value_noted : (x : List ℕ) (v : ℕ) (old new : ValueMap) (o : Option ℕ) → o ≡ number_shown ops number x v → Notes old new x v o → NotesValue ops number (Put x v) old new
+  value_noted x v old new o is notes = record {
     here = λ y u there. here y u there;
-    others = λ y u none. updates.2 (y, u) (apart y u none);
+    others = λ y u none. notes.others y u (λ key value. none (0, omega arith, (λ k. Put (sym key k) (sym value k))));
   }
     where
       here : (y : List ℕ) (u : ℕ) → Contains (Put x v ∷ []) (Put y u) → noted new y u ≡ Some (number_shown ops number y u)
@@ -234,15 +229,4 @@ module _ (ops : List Op) (number : Option ℕ) where
       here y u (zero, l, e) =
           let key : x ≡ y = cc in
           let value : v ≡ u = cc in
-          (λ k. noted new (sym key k) (sym value k)) ∙ updates.1 ∙ ap Some is ∙ (λ k. Some (number_shown ops number (key k) (value k)))
-
-      apart : (y : List ℕ) (u : ℕ) → (Contains (Put x v ∷ []) (Put y u) → ⊥) → is_at (pair_cmp (x, v)) (y, u) ≡ false
-      apart y u none = go (cases_Bool (is_at (pair_cmp (x, v)) (y, u)))
-        where
-          go : (is_at (pair_cmp (x, v)) (y, u) ≡ true) ⊎ (is_at (pair_cmp (x, v)) (y, u) ≡ false) → is_at (pair_cmp (x, v)) (y, u) ≡ false
-          go (inr other) = other
-          go (inl tied) =
-              let parts = and_parts (bytes_eq x y) (v == u) (sym (pairs_tie (x, v) (y, u)) ∙ tied) in
-              let key = same_name x y parts.0 in
-              let value = eqb-true v u parts.1 in
-              absurd (none (0, omega arith, (λ k. Put (key k) (value k))))
+          (λ k. noted new (sym key k) (sym value k)) ∙ notes.here ∙ ap Some is ∙ (λ k. Some (number_shown ops number (key k) (value k)))

@@ -54,7 +54,7 @@ module _ (h : History) (e : Entry) (rows : List (List ℕ)) (row : List ℕ) (pa
       = ap (λ (z : List ℕ). slice_index z (owner g u)) (old_row v at_v) ∙ ap (λ k. slice_index (row_of rows v) k) (old_owner h e u at_u) in
       omega (arith, up, moved, old_place h e u at_u)
 
-  -- ---- the new one stands before none of those
+  -- ---- the new one comes before none of those
 
   last_of_all : (v : ℕ) → v < t → IsUpTo g new t v → ⊥
   last_of_all v at_v up = go (ordered.held.places v e.owner at_v)
@@ -75,7 +75,7 @@ module _ (h : History) (e : Entry) (rows : List (List ℕ)) (row : List ℕ) (pa
       = ap (λ (z : List ℕ). slice_index z (owner g t)) new_row ∙ ap (λ k. slice_index row k) own_owner in
       omega (arith, moved, own_place, over.itself)
 
-  -- ---- what stands before the new one stands before one right before it, or is that
+  -- ---- what comes before the new one comes before one right before it, or is that one
 
   through : (u : ℕ) → u < t → IsUpTo g new u t → (p : ℕ) × Contains parents p × IsUpTo h rows u p
   through u at_u up = first (cases_lt 0 u)

@@ -1,4 +1,4 @@
--- One link more: rows that are raised by it are an order again, and its ends stand in order.
+-- One link more: rows that are raised by it are an order again, and its ends are in order.
 use Rattle.std.proofs.Common.{ℕ, ◌≡◌, ◌<◌, ◌≤◌, ◌⊎◌, inl, inr, List, slice_index, sym, subst, ◌∙◌, arith}
 use Rattle.std.specs.Prelude.{max}
 use Rattle.std.proofs.lemmas.Bool.{cases_lt}
@@ -15,7 +15,7 @@ either x y z e = by (cases_lt x y)
 
 module _ (h : History) (old new : List (List ℕ)) (b a : ℕ) (ordered : AreOrdered h old) (raised : IsRaised h old new b a) (at_b : b < count h)
     (at_a : a < count h) where
-  -- what stands before another now did so before, or stood before the one end while the other end stood before that
+  -- what comes before another now did so before; or it came before the one end, and the other end came before that other
   pub forth : (u v : ℕ) → v < count h → IsUpTo h new u v → IsUpTo h old u v ⊎ (IsUpTo h old u b × IsUpTo h old a v)
   forth u v inside up = go (raised.each v inside)
     where
@@ -59,7 +59,7 @@ module _ (h : History) (old new : List (List ℕ)) (b a : ℕ) (ordered : AreOrd
       go (inl (same, skipped)) = subst (λ (row : List ℕ). IsPlaceOf h session (slice_index row session)) (sym same) (ordered.held.places v session inside)
       go (inr (after, each)) = pick (either (last_in old b session) (last_in old v session) (last_in new v session) (each session))
 
-  -- where a didn't stand before b
+  -- where a didn't come before b
   module _ (free : IsUpTo h old a b → ⊥) where
     joined : (u v w : ℕ) → u < count h → v < count h → w < count h → IsUpTo h new u v → IsUpTo h new v w → IsUpTo h new u w
     joined u v w at_u at_v at_w uv vw = back u w at_u at_w (go (forth u v at_v uv) (forth v w at_w vw))

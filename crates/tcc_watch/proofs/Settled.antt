@@ -1,4 +1,4 @@
--- A link that is put in order, and all that a read brings: that of each session the last one is enough.
+-- A link that is put in order, and all links that a read brings: of each session the last writer is enough.
 use Rattle.std.proofs.Common.{ℕ, ◌+◌, ◌≡◌, ◌≢◌, ◌<◌, ◌≤◌, ◌⊎◌, inl, inr, Bool, true, false, List, [], length, get_or, slice_index, nat_le, sym, ap, subst, ◌∙◌, arith}
 use Rattle.std.specs.Prelude.{slice_index_or, Ok, Err, IfOk}
 use Rattle.std.specs.declared.result.Result.{Result}
@@ -22,7 +22,7 @@ use Rattle.tcc_watch.proofs.Rising.{reached_rises}
 use Rattle.tcc_watch.proofs.NoCycle.{routed_join, routed_link}
 use Rattle.tcc_watch.proofs.Raised.{raised_order, raised_sound, stays, linked}
 
--- `init` stands before all
+-- `init` comes before all
 pub first_of_all : (h : History) (rows : List (List ℕ)) (v : ℕ) → IsDelivered h → IsUpTo h rows 0 v
 first_of_all h rows v delivered = let none = ap (λ (e : Entry). e.place) delivered.first in omega (arith, none)
 
@@ -134,13 +134,20 @@ module _ (r : Reading) (rows : List (List ℕ)) (stands : List At) (members : Li
           let lower = (pair_parts h (slice_index numbers i) (slice_index numbers k) (first i k less inside)).lower (can.right.some i early) in
           omega (arith, lower, stand i early, stand k inside)
 
-  -- one that reaches the reader stands within its clock
+  -- one that reaches the reader is within its clock
   reaching : (b i : ℕ) → i < length numbers → slice_index numbers i ≡ b → IsReached h b r.reader → place_at stands (slice_index numbers i) ≤ slice_index clock w.session
   reaching b i inside is reached =
       let known : place h b ≤ slice_index clock (owner h b) = can.reading.clock_of.known b reached in
       let at = ap (λ n. place h n) is in
       let owned = ap (λ n. slice_index clock n) (sym (ap (λ n. owner h n) is) ∙ can.right.owned i inside) in
       omega (arith, known, at, owned, stand i inside)
+
+  -- where the row of a goes as far as the last one, all of them come before a
+  pub all_passed : w.last ≤ last_in rows a w.session → OrdersWriters r rows numbers a
+  all_passed over b (i, inside, is) apart reached =
+      let here : slice_index numbers i ≡ b = get_or_default numbers i 0 b inside ∙ is in
+      let at = ap (λ k. last_in rows a k) (can.right.owned i inside) in
+      subst (λ (z : ℕ). IsUpTo h rows z a) here (omega (arith, can.last i inside, over, at))
 
   pub none_reaches : NoneWithin stands numbers (slice_index clock w.session) → OrdersWriters r rows numbers a
   none_reaches none b (i, inside, is) apart reached =
@@ -151,7 +158,7 @@ module _ (r : Reading) (rows : List (List ℕ)) (stands : List At) (members : Li
     last_below : last < count h
     last_below = subst (λ (z : ℕ). z < count h) is_last.here (below is_last.index is_last.inside)
 
-    -- where the last one stands before a, or is a, so do those before it
+    -- where the last one comes before a, or is a, those before it come before a too
     pub all_before : (new : List (List ℕ)) → IsClosure h new → (last ≡ a) ⊎ IsUpTo h new last a → OrdersWriters r new numbers a
     all_before new closure done b (i, inside, is) apart reached = go (cases_order i is_last.index) done
       where
@@ -228,7 +235,7 @@ lists_more r old new lists index w a at_a is inside before (closure, keeps, orde
         subst (λ (z : SessionWriters). OrdersWriters r new z.numbers a) at orders
     go (inr apart) = orders_kept r old new (get_or lists i d).numbers a at_a keeps (before i d (omega (arith, low, apart)))
 
--- for each value that a call answers what is right of it gives what is asked
+-- for each value that a call returns, what holds of it gives what is asked
 pub if_ok : {T E : Type 0} (result : Result T E) (P Q : T → Type 0) → IfOk result P → ((v : T) → P v → Q v) → IfOk result Q
 if_ok (Ok v) P Q h f = f v h
 if_ok (Err e) P Q h f = tt
@@ -246,7 +253,7 @@ reasons_done r rows old stands members lists clock a can done b walk reason = go
     go (inl some) =
         let before : b < r.reader = reached_rises r.history can.reading.delivered b r.reader reached in
         let w = can.right.all b some before reason.0.2 in
-        let d : SessionWriters = record { session = 0; numbers = [] } in
+        let d : SessionWriters = record { session = 0; numbers = []; last = 0 } in
         done w.0 d w.1 b (w.2 d) reason.0.0 reached
     go (inr none) =
         let zeroth : 0 ≡ b = omega (arith, none) in

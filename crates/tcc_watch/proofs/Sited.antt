@@ -37,7 +37,7 @@ in_filter_map f (z ∷ xs) x y (suc k, l, e) is = go (f z) (in_filter_map f xs x
 
 -- ---- sites
 
--- where a site's operation stands
+-- the place of a site's operation
 pub record IsSiteAt (stand : Stand) (site : Site) (k : ℕ) : Type 0 where
   pub within : k < length stand.txn.ops
   pub op : (d : Op) → get_or stand.txn.ops k d ≡ site.op

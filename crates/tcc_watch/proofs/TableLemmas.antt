@@ -1,4 +1,4 @@
--- The tables when a transaction comes: those right before it, where it stands, and what its links bring.
+-- The tables when a transaction comes: those right before it, its session and place, and what its links bring.
 use Rattle.std.proofs.Common.{ℕ, zero, suc, ◌-◌, ◌≡◌, ◌<◌, ◌≤◌, ◌==◌, ◌⊎◌, inl, inr, List, [], ◌∷◌, ◌++◌, length, map, filter, get_or, slice_index, refl, sym, ap, subst, ◌∙◌, arith, length-append}
 use Rattle.std.specs.Prelude.{if◌then◌else◌}
 use Rattle.std.specs.List.{Contains}
@@ -145,7 +145,7 @@ module _ (h : History) (e : Entry) (members : List (List ℕ)) (delivered : IsDe
   pub are_parents : AreParents g t (parents_in members e.owner e.reads)
   are_parents = record { one = (last, here); pairs = pairs; all = all }
 
-  -- ---- where it stands
+  -- ---- its session and place
 
   pub more_stands : (stands : List At) (at : At) → at.session ≡ e.owner → at.place ≡ e.place → AreStands h stands → AreStands g (stands ++ at ∷ [])
   more_stands stands at session_is place_is right = record {

@@ -1,4 +1,4 @@
--- Where each transaction that hasn't come waits for another that hasn't, causal pairs stand in a circle.
+-- Where each transaction that hasn't come waits for another that hasn't, causal pairs lead in a circle.
 use Rattle.std.proofs.Common.{ℕ, ◌≡◌, ◌<◌, Bool, true, false, List, [], ◌∷◌}
 use Rattle.tcc_reads.specs.History.{History, count}
 use Rattle.tcc_graph.specs.Relations.{causal_pair}

@@ -1,5 +1,5 @@
--- A small history worked out by hand, that the definitions have to agree with: a/1 writes x; b/1 writes x and y; c/1 comes last, and
--- reads y from b/1 and x from a/1, so b/1 has to stand before a/1.
+-- A small history worked out by hand, that the definitions have to agree with. a/1 writes x; b/1 writes x and y. c/1 comes last, and
+-- reads y from b/1 and x from a/1. So b/1 has to come before a/1.
 use Rattle.std.proofs.Common.{ℕ, zero, suc, ◌≡◌, inl, inr, List, [], ◌∷◌, slice_index, refl, arith}
 use Rattle.std.specs.Prelude.{codes, max}
 use Rattle.tcc_reads.specs.History.{Entry, History, count, entry_at, initial}
@@ -51,7 +51,7 @@ raised = [] ∷ (1 ∷ 1 ∷ []) ∷ (0 ∷ 1 ∷ []) ∷ (1 ∷ 1 ∷ 1 ∷ [])
 before : IsUpTo all rows 1 3 × IsUpTo all rows 2 3 × (IsUpTo all rows 1 2 → ⊥) × (IsUpTo all rows 2 1 → ⊥) × (IsUpTo all rows 3 1 → ⊥)
 before = (omega arith, omega arith, (λ up. absurd (omega (arith, up))), (λ up. absurd (omega (arith, up))), λ up. absurd (omega (arith, up)))
 
--- b/1 stands before a/1: the row of a/1 goes to b/1 now, that of c/1 did
+-- b/1 comes before a/1: the row of a/1 goes to b/1 now, and that of c/1 did so before
 linked : (v : ℕ) → IsRaisedAt all rows raised 2 1 v
 linked zero = inl (refl, inl (λ up. absurd (omega (arith, up))))
 linked (suc zero) = inr (omega arith, each)

@@ -1,4 +1,4 @@
--- What is told of a snapshot.
+-- The verdict of a snapshot.
 use Rattle.std.specs.Prelude.{◌≡◌, ◌≢◌, []}
 use Rattle.tcc_txn.specs.Snapshots.{Sessions}
 use Rattle.tcc_reads.specs.Faults.{read_faults}

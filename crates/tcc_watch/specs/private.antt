@@ -1,4 +1,5 @@
--- What nobody has to believe: private functions say it to one another, or proofs to themselves.
+-- Definitions that no reader has to trust: only private functions and proofs use them.
+pub mod Numbered
 pub mod Rows
 pub mod Links
 pub mod Tables

@@ -1,5 +1,6 @@
 //! The transactions of all sessions as they come: each waits until the one before it in its session and its sources were delivered.
-//! For S sessions a transaction that comes, or is delivered while others wait, costs a look at the first that waits in each.
+//! A transaction that comes costs a look at the first that waits in its session, and one that is delivered a look in each session. Where
+//! one is known to wait for a value that hasn't come, the look is for that value alone.
 ghost use Rattle.std.specs.Prelude.{◌≡◌, ℕ, false, [], IfOk, IfSome, OnOk};
 ghost use Rattle.std.specs.FinMap as sessions;
 ghost use Rattle.tcc_txn.specs.{Finished.with_transaction, Snapshots.Sessions};
@@ -9,6 +10,7 @@ ghost use Rattle.tcc_watch.specs.private.Arrivals.{AreArrivals, GoesOnAs, IsFirs
 
 use crate::at::At;
 use crate::gaps::are_gaps;
+use crate::hints::{Hints, missing};
 use crate::kept::{Kept, ready_sources};
 use crate::lines::{Line, add_waiting, next_of};
 use crate::verdict::Verdict;
@@ -21,6 +23,7 @@ use tcc_txn::{Name, NoMemory, Txn};
 pub(crate) struct Arrivals {
     pub lines: Vec<Line>,
     pub kept: Kept,
+    pub hints: Hints,
 }
 
 /// Whether a transaction waits in one of the sessions.
@@ -63,15 +66,17 @@ impl Arrivals {
         Ok(Arrivals {
             lines: Vec::new(alloc),
             kept,
+            hints: Hints::new(alloc),
         })
     }
 
-    /// A session's transaction comes, and waits.
-    fn wait(&mut self, alloc: Global, session: Name, txn: Txn) -> Result<(), NoMemory>
+    /// A session's transaction comes, and waits; the index of the session.
+    fn wait(&mut self, alloc: Global, session: Name, txn: Txn) -> Result<usize, NoMemory>
         ensures { (s : Sessions) → AreArrivals s self.old → OnOk result (AreArrivals (with_transaction s session txn) self.new) }
     {
-        add_waiting(alloc, &mut self.lines, session, txn)?;
-        Ok(())
+        let index = add_waiting(alloc, &mut self.lines, session, txn)?;
+        self.hints.make_room(index)?;
+        Ok(index)
     }
 
     /// Delivers the first transaction that waits in the session at an index, which may be delivered.
@@ -95,7 +100,7 @@ impl Arrivals {
         Ok(())
     }
 
-    /// Delivers the first transaction that waits in the session at an index, if there is one that may be delivered; says so.
+    /// Delivers the first transaction that waits in the session at an index, if there is one and it may be delivered; whether it was.
     fn deliver_next(&mut self, alloc: Global, index: usize) -> Result<bool, NoMemory>
         requires { IsOpen self.old }
         ensures { OnOk result (GoesOnAs self.old self.new) }
@@ -103,14 +108,18 @@ impl Arrivals {
         let Some(txn) = first_waiting(&self.lines, index) else {
             return Ok(false);
         };
+        if self.hints.still_waits(&self.kept.values, index) {
+            return Ok(false);
+        }
         let Some(reads) = ready_sources(alloc, &self.kept.values, txn)? else {
+            self.hints.put(index, missing(&self.kept.values, txn.ops()));
             return Ok(false);
         };
         self.deliver(alloc, index, reads)?;
         Ok(true)
     }
 
-    /// Delivers in each session the first that waits, if it may be delivered; whether one was.
+    /// Delivers in each session the first transaction that waits, if it may be delivered; whether any was.
     fn deliver_first(&mut self, alloc: Global) -> Result<bool, NoMemory>
         requires { IsOpen self.old }
         ensures { OnOk result (GoesOnAs self.old self.new) }
@@ -137,17 +146,20 @@ impl Arrivals {
         Ok(())
     }
 
-    /// A session's transaction comes. It is delivered if it may be, and so is all that may be after it.
+    /// A session's transaction comes. If its session has one that may be delivered now, that is delivered, and so is all that may be
+    /// after it.
     fn arrive(&mut self, alloc: Global, session: Name, txn: Txn) -> Result<(), NoMemory>
         requires { IsOpen self.old }
         ensures { (s : Sessions) → AreArrivals s self.old → OnOk result (AreArrivals (with_transaction s session txn) self.new) }
     {
-        self.wait(alloc, session, txn)?;
-        self.deliver_all(alloc)?;
+        let index = self.wait(alloc, session, txn)?;
+        if self.deliver_next(alloc, index)? {
+            self.deliver_all(alloc)?;
+        }
         Ok(())
     }
 
-    /// What may be told while a transaction waits: that a read has no source, where nobody has written what it reads.
+    /// The verdict while a transaction waits: unresolved, where it reads what nobody has written; else it isn't known.
     fn waiting_verdict(&self) -> Option<Verdict>
         ensures { (s : Sessions) (level : Level) → AreArrivals s self.now → IfSome result (IsVerdict s level) }
     {
@@ -157,7 +169,8 @@ impl Arrivals {
         None
     }
 
-    /// What may be told with nothing more decided: none where a transaction waits, or where only the other level is known.
+    /// The verdict, where it is known with nothing more decided. It isn't where a transaction waits, unless
+    /// for a value that nobody has written; nor at `Atomic` where there is a cycle at `Causal`.
     pub(crate) fn verdict(&self, level: Level) -> Option<Verdict>
         ensures { (s : Sessions) → AreArrivals s self.now → IfSome result (IsVerdict s level) }
     {
@@ -174,7 +187,7 @@ impl Arrivals {
     }
 }
 
-/// What has come with a session's transaction more; none where memory is refused.
+/// What has come, with one more transaction of a session; none where memory is refused.
 pub(crate) fn with_arrival(
     alloc: Global,
     arrivals: Option<Arrivals>,

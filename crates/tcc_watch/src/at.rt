@@ -1,6 +1,6 @@
-//! Where transactions stand.
+//! The session and the place of transactions.
 
-/// Where a transaction stands: its session, and its place there; 0 and 0 for `init`.
+/// A transaction's session, and its place there; 0 and 0 for `init`.
 #[derive(Clone, Copy, Drop)]
 pub(crate) struct At {
     pub session: u32,

@@ -1,4 +1,4 @@
-//! Whether the history so far has a cycle at `Causal`: once it has one it keeps it, and nothing more need be known.
+//! Whether the history so far has a cycle at `Causal`. Once it has one it keeps it, and nothing more has to be known.
 ghost use Rattle.std.specs.Prelude.{◌≡◌, List, ℕ, IfOk, OnOk};
 ghost use Rattle.tcc_watch.specs.private.Tables.{Arriving, after};
 ghost use Rattle.tcc_watch.specs.private.Delivering.{before_all};

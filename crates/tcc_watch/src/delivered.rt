@@ -1,6 +1,6 @@
-//! Whether a history is consistent, decided at `Causal` as it grows. A transaction comes after all that it needs, so that its clock is
-//! final and each new derived link has it as its reader. For S sessions a read takes O(S log N) steps, and each link that wasn't
-//! known O(S log N) more and S for each row that it raises.
+//! Whether a history is consistent, decided at `Causal` as it grows. A transaction comes after all that it needs. So its clock is
+//! final, and it is the reader of each new derived link. For S sessions a read takes O(S log N) steps. Each link that wasn't known
+//! takes O(S log N) more, and S for each row that it raises.
 ghost use Rattle.std.specs.Prelude.{ℕ, List, IfOk};
 ghost use Rattle.tcc_watch.specs.private.Links.{IsLinked, Reading};
 ghost use Rattle.tcc_watch.specs.private.Tables.{Arriving};
@@ -10,9 +10,8 @@ use crate::at::At;
 use crate::linking::link_read;
 use crate::places::Places;
 use crate::tables::{Tables, parents};
-use crate::writers::{KeyWriters, note_writes};
+use crate::writers::{Writers, note_writes};
 use std::alloc::Global;
-use std::collections::BTreeMap;
 use tcc_bits::Row;
 use tcc_txn::{Name, NoMemory};
 
@@ -20,7 +19,7 @@ use tcc_txn::{Name, NoMemory};
 #[derive(Drop)]
 pub(crate) struct Delivered {
     pub tables: Tables,
-    pub writers: BTreeMap<Name, KeyWriters>,
+    pub writers: Writers,
 }
 
 /// Makes the derived links that a read brings; false where one of them closes a cycle.
@@ -29,7 +28,7 @@ fn link_key(
     closure: &mut [Places],
     stands: &[At],
     members: &[Row<u32>],
-    writers: &BTreeMap<Name, KeyWriters>,
+    writers: &Writers,
     clock: &Places,
     read: &(Name, u32),
 ) -> Result<bool, NoMemory>
@@ -37,18 +36,15 @@ fn link_key(
     requires { CanLinkKey reading closure.old stands.now members.now writers.now clock.now read.now.0 read.now.1 }
     ensures { IfOk result (IsLinked reading closure.old closure.new read.now.1) }
 {
-    match writers.get(&read.0) {
-        Some(lists) => link_read(
-            alloc,
-            closure,
-            stands,
-            members,
-            lists.lists(),
-            clock,
-            read.1,
-        ),
-        None => Ok(true),
-    }
+    link_read(
+        alloc,
+        closure,
+        stands,
+        members,
+        writers.lists(&read.0),
+        clock,
+        read.1,
+    )
 }
 
 /// Makes the derived links that some reads bring; false where one of them closes a cycle.
@@ -57,7 +53,7 @@ fn link_reads(
     closure: &mut [Places],
     stands: &[At],
     members: &[Row<u32>],
-    writers: &BTreeMap<Name, KeyWriters>,
+    writers: &Writers,
     clock: &Places,
     reads: &[(Name, u32)],
 ) -> Result<bool, NoMemory>
@@ -95,7 +91,7 @@ impl Delivered {
         };
         Ok(Delivered {
             tables,
-            writers: BTreeMap::new(alloc),
+            writers: Writers::new(alloc),
         })
     }
 
@@ -125,7 +121,7 @@ impl Delivered {
             &self.tables.clocks[number as usize],
             reads,
         )?;
-        note_writes(alloc, &mut self.writers, at.session, number, writes)?;
+        note_writes(alloc, &mut self.writers, at, number, writes)?;
         Ok(in_order)
     }
 }

@@ -1,5 +1,5 @@
 //! Reads of values that nobody has written so far: while one waits, what has come has a read fault. Each read of the first transaction
-//! that waits in a session takes a look at each write that waits.
+//! that waits in a session is compared with each write that waits.
 ghost use Rattle.std.specs.Prelude.{◌≡◌, true};
 ghost use Rattle.tcc_watch.specs.private.Gaps.{AreGaps, HasGap, IsGap, IsNowhere, WaitsForNothing, is_coming, is_written_in};
 
@@ -31,7 +31,7 @@ fn is_nowhere(lines: &[Line], values: &Values, key: &Name, value: u64) -> bool
     if value == 0 {
         return false;
     }
-    if values.contains_key(&(*key, value)) {
+    if values.contains_key(key, value) {
         return false;
     }
     !is_coming(lines, key, value)
@@ -50,7 +50,7 @@ fn is_gap(lines: &[Line], values: &Values, before: &[Op], op: &Op) -> bool
     }
 }
 
-/// Whether one of some operations does.
+/// Whether one of some operations is such a read.
 fn has_gap(lines: &[Line], values: &Values, ops: &[Op]) -> bool
     ensures { result ≡ true → HasGap lines.now values.now ops.now }
 {

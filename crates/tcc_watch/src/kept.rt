@@ -10,10 +10,9 @@ use crate::decided::Decided;
 use crate::operations::written_keys;
 use crate::values::{Values, are_unwritten, note_values, sources};
 use std::alloc::Global;
-use std::collections::BTreeMap;
 use tcc_txn::{Name, NoMemory, Txn};
 
-/// A transaction that was delivered: where it stands, the keys that it writes, and key and source of its external reads.
+/// A transaction that was delivered: its session and place, the keys that it writes, and key and source of its external reads.
 #[derive(Drop)]
 pub(crate) struct Entered {
     pub at: At,
@@ -58,7 +57,7 @@ impl Kept {
         let decided = Decided::new(alloc)?;
         Ok(Kept {
             entries: Vec::new(alloc),
-            values: BTreeMap::new(alloc),
+            values: Values::new(alloc),
             decided,
         })
     }
@@ -76,7 +75,7 @@ impl Kept {
         }
     }
 
-    /// Takes in a committed transaction where it stands, with its keys and its sources; its values are not noted yet.
+    /// Takes in a committed transaction with its session and place, its keys and its sources; its values are not noted yet.
     fn enter(
         &mut self,
         alloc: Global,

@@ -8,8 +8,8 @@ ghost use Rattle.tcc_watch.specs.Ledger.{IsLedger};
 ghost use Rattle.tcc_watch.specs.{Verdicts.IsVerdict, declared.verdict.Verdict.Verdict};
 ghost use Rattle.tcc_watch.specs.Delivered.{AllWait, AreAlike, IsBy, IsDelivered, IsDeliveryOf, MayCome, with_last};
 
-/// Where a transaction comes after all that it needs, each link stays one, and each that is new is a pair into it or a derived link of
-/// which it is the reader; nothing that was there is reached from more than before.
+/// Where a transaction comes after all that it needs, each link stays one. Each new link is a pair into it, or a derived link of which
+/// it is the reader. Nothing that was there is reached from more than before.
 pub fn sinks()
     ensures delivered { (h : History) (e : Entry) → IsDelivered h → MayCome h e → IsDelivered (with_last h e) }
     ensures kept { (h : History) (e : Entry) (level : Level) (l : Link) → IsLink (judged h level) l → IsLink (judged (with_last h e) level) l }
@@ -45,7 +45,7 @@ pub fn ledgers()
         → HasCycle (judged h level) ↔ HasCycle (judged (history s) level) }
 {}
 
-/// Of a snapshot one thing alone is told at a level: in whatever order its sessions came, and whatever was known before.
+/// A snapshot has only one verdict at a level, in whatever order its sessions came, and whatever was known before.
 pub fn verdicts()
     ensures { (s : Sessions) (level : Level) (v : Verdict) (w : Verdict) → IsVerdict s level v → IsVerdict s level w → v ≡ w }
 {}

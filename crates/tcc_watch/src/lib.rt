@@ -1,5 +1,5 @@
-//! Answers while a history grows: transactions come one after the other, each after those that it needs, and what has to stand before
-//! what is kept in rows.
+//! Answers while a history grows. Transactions come one after the other, each after those that it needs. Rows keep what has to come
+//! before what.
 #![tactic(auto)]
 
 mod arrivals;
@@ -7,6 +7,7 @@ mod at;
 mod decided;
 mod delivered;
 mod gaps;
+mod hints;
 mod kept;
 pub mod laws;
 mod lines;

@@ -1,7 +1,8 @@
-//! The derived links that a transaction brings as their reader. Of the writers of a key that it reads, the last of each session that its
-//! clock reaches has to stand before the one that it reads from: the earlier ones of that session stand before that one.
-ghost use Rattle.std.specs.Prelude.{IfOk, MatchOption};
+//! The derived links that a transaction brings as their reader. It reads a key from one writer, and its clock reaches others. Of these
+//! the last one of each session has to come before the one that is read. The earlier ones of a session come before its last one.
+ghost use Rattle.std.specs.Prelude.{◌≡◌, ◌<◌, ◌++◌, ◌∷◌, [], nat_le, length, IfOk, MatchOption, OnOk};
 ghost use Rattle.tcc_reads.specs.History.{History};
+ghost use Rattle.tcc_watch.specs.private.Rows.{last_in};
 ghost use Rattle.tcc_watch.specs.private.Links.{CanSettle, CanLink, CanLinkSession, IsSettled, IsLinkedIn, IsLinked, Reading, RisePlaces, IsCountWithin, IsLastWithin, NoneWithin};
 
 use crate::at::At;
@@ -17,9 +18,22 @@ use tcc_txn::NoMemory;
 pub(crate) struct SessionWriters {
     pub session: u32,
     pub numbers: Row<u32>,
+    /// The place of the last of them.
+    pub last: u32,
 }
 
-/// How many of these numbers, from the first on, stand no further in their session than a place.
+impl SessionWriters {
+    /// One more writer, the last.
+    pub(crate) fn add(&mut self, number: u32, place: u32) -> Result<(), NoMemory>
+        ensures { OnOk result (self.new ≡ record { session = self.old.session; numbers = self.old.numbers ++ number ∷ []; last = place }) }
+    {
+        self.numbers.push(number)?;
+        self.last = place;
+        Ok(())
+    }
+}
+
+/// How many of these numbers, from the first on, are no further in their session than a place.
 fn count_within(stands: &[At], numbers: &[u32], place: u32) -> usize
     requires { RisePlaces stands.now numbers.now }
     ensures { IsCountWithin stands.now numbers.now place result }
@@ -37,7 +51,7 @@ fn count_within(stands: &[At], numbers: &[u32], place: u32) -> usize
     low
 }
 
-/// The last of these numbers that stands no further in its session than a place.
+/// The last of these numbers that is no further in its session than a place.
 fn last_within(stands: &[At], numbers: &[u32], place: u32) -> Option<u32>
     requires { RisePlaces stands.now numbers.now }
     ensures { MatchOption result (NoneWithin stands.now numbers.now place) (IsLastWithin stands.now numbers.now place) }
@@ -49,7 +63,7 @@ fn last_within(stands: &[At], numbers: &[u32], place: u32) -> Option<u32>
     Some(numbers[count - 1])
 }
 
-/// Has `b` stand before `a`, unless it does; false where `a` stands before `b`.
+/// Makes `b` come before `a`, unless it does already; false where `a` comes before `b`.
 fn settle(
     alloc: Global,
     closure: &mut [Places],
@@ -72,7 +86,15 @@ fn settle(
     Ok(true)
 }
 
-/// Has the last writer of a session that a clock reaches stand before `a`, unless it is `a`; false where that closes a cycle.
+/// Whether the last writer of a session comes before `a` or is `a`, and so do all of them. Most links are known: this is one comparison.
+fn are_before(closure: &[Places], writers: &SessionWriters, a: u32) -> bool
+    requires { a < length closure.now }
+    ensures { result ≡ nat_le writers.now.last (last_in closure.now a writers.now.session) }
+{
+    writers.last <= closure[a as usize].at(writers.session)
+}
+
+/// Makes the last writer of a session that a clock reaches come before `a`, unless it is `a`; false where that closes a cycle.
 fn link_session(
     alloc: Global,
     closure: &mut [Places],
@@ -86,6 +108,9 @@ fn link_session(
     requires { CanLinkSession read closure.old stands.now members.now writers.now clock.now a }
     ensures { IfOk result (IsLinkedIn read closure.old closure.new writers.now a) }
 {
+    if are_before(closure, writers, a) {
+        return Ok(true);
+    }
     match last_within(
         stands,
         writers.numbers.as_slice(),
@@ -101,7 +126,7 @@ fn link_session(
     }
 }
 
-/// Has all writers of a key that a clock reaches stand before `a`, which is read there; false where that closes a cycle.
+/// Makes all writers of a key that a clock reaches come before `a`, which is read there; false where that closes a cycle.
 pub(crate) fn link_read(
     alloc: Global,
     closure: &mut [Places],

@@ -1,4 +1,4 @@
-//! What the operations of a transaction write. A transaction has a few hundred operations at most, so each is compared with those before.
+//! What the operations of a transaction write. A transaction has a few hundred operations at most, so each is compared with all before it.
 ghost use Rattle.std.specs.Prelude.{◌≡◌, IfOk, OnOk};
 ghost use Rattle.std.specs.List.{list_any};
 ghost use Rattle.tcc_txn.specs.Symbols.{is_symbol, with_symbol};

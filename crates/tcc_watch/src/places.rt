@@ -21,7 +21,7 @@ impl Model for Places {
     ghost view = { λ p. p.places.items };
 }
 
-/// Room for so many sessions.
+/// Room for `len` sessions.
 fn extend(places: &mut Vec<u32>, len: usize) -> Result<(), NoMemory>
     ensures long { OnOk result (len ≤ length places.new.items) }
     ensures same { OnOk result ((session : ℕ) → slice_index places.new.items session ≡ slice_index places.old.items session) }

@@ -1,9 +1,9 @@
-//! Galloping search from the end (Bentley and Yao, 1976), for lists whose end is asked for most often: as long as nothing is known to come
-//! before, the next one that is looked at lies twice as far from the end, and after that it is the middle. Where the answer lies d from
-//! the end that takes O(log d) steps.
+//! Galloping search from the end (Bentley and Yao, 1976), for lists whose end is asked for most often. The first probes double their
+//! distance from the end, until one comes before the answer. From there on it is a binary search. An answer at distance d from the end
+//! takes O(log d) probes.
 ghost use Rattle.std.specs.Prelude.{◌≤◌, ◌<◌};
 
-/// Which of some indices from `low` to below `high` is looked at next, of `len` in all.
+/// Which index from `low` to below `high` is probed next, of `len` in all.
 pub(crate) fn probed(low: usize, high: usize, len: usize) -> usize
     requires { low < high }
     ensures from { low ≤ result }

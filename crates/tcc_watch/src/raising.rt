@@ -1,6 +1,6 @@
-//! One link more in rows that say what has to stand before what: the row of its end, and those of all behind that, go as far as the
-//! row of its start. In a session these are neighbours, of which a galloping search finds the first, since what is behind a new link
-//! is near the end of each session. For S sessions of N transactions that takes O(S log N) steps at most, and S for each row that is
+//! One link more in rows that say what has to come before what. The row of its end, and those of all that come after that, go as far
+//! as the row of its start. In a session these are neighbours, and a galloping search finds the first: what comes after a new link is
+//! near the end of each session. For S sessions of N transactions that takes O(S log N) steps at most, and S for each row that is
 //! raised.
 ghost use Rattle.std.specs.Prelude.{OnOk};
 ghost use Rattle.tcc_reads.specs.History.{History};
@@ -13,7 +13,7 @@ use std::alloc::Global;
 use tcc_bits::Row;
 use tcc_txn::NoMemory;
 
-/// The first of these numbers whose row goes to a place, by its index; how many there are where none does.
+/// The index of the first of these numbers whose row goes to a place; their count where none does.
 fn first_with(rows: &[Places], numbers: &[u32], at: At) -> usize
     requires { AreRising rows.now numbers.now }
     ensures { IsFirstWith rows.now numbers.now at result }
@@ -51,7 +51,7 @@ fn raise_session(
     Ok(())
 }
 
-/// Has `b` stand before `a`, and before all before which `a` stands.
+/// Makes `b` come before `a`, and before all that come after `a`.
 pub(crate) fn raise(
     alloc: Global,
     rows: &mut [Places],

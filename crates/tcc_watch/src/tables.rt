@@ -1,5 +1,5 @@
-//! The tables of a history that grows at its end: where its transactions stand, and what has to come before each of them, by causal
-//! pairs alone (vector clocks of Fidge and Mattern) and by derived links too.
+//! The tables of a history that grows at its end: the session and place of each transaction, and what has to come before it. They
+//! say so by causal pairs alone (vector clocks of Fidge and Mattern), and by derived links too.
 ghost use Rattle.std.specs.Prelude.{◌≡◌, ◌≤◌, ◌==◌, ◌++◌, ◌∷◌, [], ℕ, length, IfOk, OnOk, if◌then◌else◌};
 ghost use Rattle.tcc_graph.specs.Tables.{row_of};
 ghost use Rattle.tcc_watch.specs.private.Tables.{Arriving, previous_in, parents_in, CanArrive, HasArrived};
@@ -52,7 +52,7 @@ pub(crate) fn parents(
     Ok(parents)
 }
 
-/// Rows for so many sessions.
+/// Rows for `len` sessions.
 fn extend(alloc: Global, members: &mut Vec<Row<u32>>, len: usize) -> Result<(), NoMemory>
     ensures long { OnOk result (len ≤ length members.new.items) }
     ensures same { OnOk result ((session : ℕ) → row_of members.new.items session ≡ row_of members.old.items session) }
@@ -79,7 +79,7 @@ fn add_member(
 }
 
 impl Tables {
-    /// Takes in a transaction where it stands, after those right before it; its derived links are not made yet.
+    /// Takes in a transaction by its session and place, after those right before it; its derived links are not made yet.
     pub(crate) fn arrive(
         &mut self,
         alloc: Global,

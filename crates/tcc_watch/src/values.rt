@@ -1,24 +1,94 @@
-//! The values that were written so far, each with the transaction that gives it, and where external reads come from.
-ghost use Rattle.std.specs.Prelude.{◌≡◌, true, IfOk, IfSome, OnOk};
-ghost use Rattle.tcc_watch.specs.private.Values.{AddsSource, AreNoted, AreSources, AreUnwritten, is_unwritten, NotesValue, number_shown, source_in};
+//! The values that were written so far, each with the transaction that writes it visibly, and where external reads come from.
+ghost use Rattle.std.specs.Prelude.{◌≡◌, true, ℕ, List, None, Some, is_some, IfOk, IfSome, OnErr, OnOk};
+ghost use Rattle.std.specs.BTreeMap.{IsUnchanged, Updates};
+ghost use Rattle.tcc_watch.specs.private.Values.{AddsSource, AreNoted, AreSources, AreUnwritten, is_unwritten, noted, Notes, NotesValue, number_shown, source_in, spot_cmp};
 
 use crate::operations::{are_putting, visible_write};
 use std::alloc::Global;
 use std::collections::BTreeMap;
-use tcc_txn::{Name, NoMemory, Op};
+use std::marker::Model;
+use tcc_txn::{Name, NoMemory, Op, SymbolTable};
 
-/// Of each key and value that was written the number of the transaction that writes it visibly; none where no committed one does.
-pub(crate) type Values = BTreeMap<(Name, u64), Option<u32>>;
+/// For each key and value that was written, who writes it visibly, by number; none where no committed transaction does. A key is looked
+/// up by its number.
+#[derive(Drop)]
+pub(crate) struct Values {
+    keys: SymbolTable,
+    numbers: BTreeMap<(u32, u64), Option<u32>>,
+}
 
-/// The number of the transaction from which a value is read at a key, where it has come.
+impl Model for Values {
+    ghost use Rattle.tcc_watch.specs.private.Values.{AreValuesOf, ValueMap};
+
+    ghost Value = { ValueMap };
+
+    ghost view = { λ t. record { keys = t.keys; entries = t.numbers.entries } };
+
+    ghost invariant = { λ t. AreValuesOf t.keys t.numbers.entries };
+}
+
+/// Notes of a value at the key of a number who writes it visibly.
+fn note_at(
+    numbers: &mut BTreeMap<(u32, u64), Option<u32>>,
+    spot: (u32, u64),
+    shown: Option<u32>,
+) -> Result<(), NoMemory>
+    ensures noted { OnOk result (Updates spot_cmp numbers.old numbers.new spot (Some shown)) }
+    ensures kept { OnErr result (IsUnchanged numbers.old numbers.new) }
+{
+    match numbers.insert(spot, shown) {
+        Ok(_) => Ok(()),
+        Err(_) => Err(NoMemory),
+    }
+}
+
+impl Values {
+    /// Nothing was written.
+    pub(crate) fn new(alloc: Global) -> Values
+        ensures { (x : List ℕ) (v : ℕ) → noted result x v ≡ None }
+    {
+        Values {
+            keys: SymbolTable::new(alloc),
+            numbers: BTreeMap::new(alloc),
+        }
+    }
+
+    /// What is noted of a value at a key; none where nobody wrote it.
+    fn get(&self, key: &Name, value: u64) -> Option<Option<u32>>
+        ensures { result ≡ noted self.now key.now value }
+    {
+        match self.keys.find(key) {
+            Some(number) => self.numbers.get(&(number, value)).copied(),
+            None => None,
+        }
+    }
+
+    /// Whether a value was written at a key.
+    pub(crate) fn contains_key(&self, key: &Name, value: u64) -> bool
+        ensures { result ≡ is_some (noted self.now key.now value) }
+    {
+        self.get(key, value).is_some()
+    }
+
+    /// Notes of a value at a key who writes it visibly.
+    fn put(&mut self, key: &Name, value: u64, shown: Option<u32>) -> Result<(), NoMemory>
+        ensures { OnOk result (Notes self.old self.new key.now value shown) }
+    {
+        let number = self.keys.number(*key)?;
+        note_at(&mut self.numbers, (number, value), shown)?;
+        Ok(())
+    }
+}
+
+/// From which transaction a value is read at a key, by its number, where that has come.
 fn source_of(values: &Values, key: &Name, value: u64) -> Option<u32>
     ensures { result ≡ source_in values.now key.now value }
 {
     if value == 0 {
         return Some(0);
     }
-    match values.get(&(*key, value)) {
-        Some(number) => *number,
+    match values.get(key, value) {
+        Some(number) => number,
         None => None,
     }
 }
@@ -48,8 +118,8 @@ fn add_source(
     }
 }
 
-/// Key and source of the external reads of some operations; none where a source hasn't come, or a read isn't of its own transaction's
-/// write.
+/// Key and source of the external reads of some operations. None where a source hasn't come, or where a read after an own write doesn't
+/// have its value.
 pub(crate) fn sources(
     alloc: Global,
     values: &Values,
@@ -72,7 +142,7 @@ fn is_unwritten(values: &Values, before: &[Op], op: &Op) -> bool
 {
     match op {
         Op::Put { key, value } => {
-            !values.contains_key(&(*key, *value)) && !are_putting(before, key, *value)
+            !values.contains_key(key, *value) && !are_putting(before, key, *value)
         }
         Op::Get { .. } => true,
     }
@@ -90,7 +160,7 @@ pub(crate) fn are_unwritten(values: &Values, ops: &[Op]) -> bool
     true
 }
 
-/// The number of a transaction, where its operations write a value visibly.
+/// A transaction's number, where its operations write a value visibly.
 fn number_shown(ops: &[Op], number: Option<u32>, key: &Name, value: u64) -> Option<u32>
     ensures { result ≡ number_shown ops.now number key.now value }
 {
@@ -109,10 +179,8 @@ fn note_value(values: &mut Values, ops: &[Op], number: Option<u32>, op: &Op) -> 
         return Ok(());
     };
     let shown = number_shown(ops, number, key, *value);
-    match values.insert((*key, *value), shown) {
-        Ok(_) => Ok(()),
-        Err(_) => Err(NoMemory),
-    }
+    values.put(key, *value, shown)?;
+    Ok(())
 }
 
 /// Notes what the operations of a transaction write, by its number, if it has one.

@@ -1,4 +1,4 @@
-//! What is told of a snapshot at a level, and the decision of a whole snapshot.
+//! The verdict of a snapshot at a level, and the decision of a whole snapshot.
 ghost use Rattle.std.specs.Prelude.{◌≡◌, [], IfOk};
 ghost use Rattle.tcc_txn.specs.Snapshots.{Sessions};
 ghost use Rattle.tcc_reads.specs.{Faults.read_faults, Refusals.IsRefusal, Sources.history};
@@ -11,7 +11,7 @@ use tcc_order::order;
 use tcc_reads::{ResolveFault, resolve_large};
 use tcc_txn::{LargeSnapshot, NoMemory};
 
-/// What is told of a snapshot at a level.
+/// The verdict of a snapshot at a level.
 #[derive(Clone, Copy, Debug, PartialEq, Eq)]
 pub enum Verdict {
     /// Each read has its source, and there is a commit order.
@@ -22,7 +22,7 @@ pub enum Verdict {
     Unresolved,
 }
 
-/// What is told where some operations have no source.
+/// The verdict where some operations have no source.
 fn unresolved(fault: ResolveFault) -> Result<Verdict, NoMemory>
     ensures { (s : Sessions) (level : Level) → IsRefusal s fault → IfOk result (IsVerdict s level) }
 {
@@ -32,7 +32,7 @@ fn unresolved(fault: ResolveFault) -> Result<Verdict, NoMemory>
     }
 }
 
-/// What is told where each read has its source.
+/// The verdict where each read has its source.
 fn judge(alloc: Global, graph: &LargeGraph, level: Level) -> Result<Verdict, NoMemory>
     ensures { (s : Sessions) → read_faults s ≡ [] → graph.now ≡ history s → IfOk result (IsVerdict s level) }
 {
@@ -42,7 +42,7 @@ fn judge(alloc: Global, graph: &LargeGraph, level: Level) -> Result<Verdict, NoM
     }
 }
 
-/// Decides of all that a snapshot has.
+/// The verdict of all that a snapshot has, decided from nothing.
 pub(crate) fn decide(
     alloc: Global,
     snapshot: &LargeSnapshot,

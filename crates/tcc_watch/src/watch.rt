@@ -1,4 +1,4 @@
-//! Answers while a test runs: what is told of a history as it grows. Where nothing waits an answer costs no more than what is new.
+//! Answers while a test runs: the verdict of a history as it grows. Where nothing waits an answer costs no more than what is new.
 ghost use Rattle.std.specs.Prelude.{◌≡◌, IfErr, IfOk, IfSome, OnErr, OnOk};
 ghost use Rattle.std.specs.FinMap as sessions;
 ghost use Rattle.tcc_txn.specs.Finished.{IsWithinLimits, with_transaction};
@@ -63,8 +63,8 @@ impl Watch {
         Ok(())
     }
 
-    /// What is told of all that was taken. It is known already where nothing waits, at `Atomic` as long as there is no anomaly at
-    /// `Causal`; and where a committed transaction waits for a value that nobody has written. Else all of it is decided anew.
+    /// The verdict of all that was taken. It is known already where nothing waits, at `Atomic` as long as there is no anomaly at
+    /// `Causal`. It is known too where a committed transaction waits for a value that nobody has written. Else all is decided anew.
     pub fn answer(&self, alloc: Global, level: Level) -> Result<Verdict, NoMemory>
         ensures { IfOk result (IsVerdict self.now level) }
     {
@@ -74,7 +74,7 @@ impl Watch {
         }
     }
 
-    /// What is known with nothing more decided.
+    /// The verdict, where it is known with nothing more decided.
     fn known(&self, level: Level) -> Option<Verdict>
         ensures { IfSome result (IsVerdict self.now level) }
     {

@@ -1,14 +1,14 @@
 //! The writers of each key so far, session by session.
-ghost use Rattle.std.specs.Prelude.{◌≡◌, ◌+◌, [], OnOk};
+ghost use Rattle.std.specs.Prelude.{◌≡◌, ◌≢◌, ◌+◌, ◌≤◌, ℕ, List, [], length, slice_index_or, OnOk};
 ghost use Rattle.tcc_reads.specs.History.{History};
-ghost use Rattle.tcc_watch.specs.private.Writers.{HasNumber, NotesWrite, CanNote, AreKeyWriters};
+ghost use Rattle.tcc_watch.specs.private.Writers.{HasNumber, HasNumberAt, NotesWrite, CanNote, AreKeyWriters, lists_in};
 
+use crate::at::At;
 use crate::linking::SessionWriters;
 use std::alloc::Global;
-use std::collections::BTreeMap;
 use std::marker::Model;
 use tcc_bits::Row;
-use tcc_txn::{Name, NoMemory};
+use tcc_txn::{Name, NoMemory, SymbolTable};
 
 /// The writers of one key but `init`.
 #[derive(Drop)]
@@ -25,24 +25,27 @@ impl Model for KeyWriters {
     ghost view = { λ w. w.lists.items };
 }
 
-/// One number more, the last of its session.
+/// One more number, the last of its session.
 fn add_number(
     alloc: Global,
     lists: &mut Vec<SessionWriters>,
-    session: u32,
+    at: At,
     number: u32,
 ) -> Result<(), NoMemory>
-    ensures { OnOk result (HasNumber lists.old.items lists.new.items session number) }
+    ensures { OnOk result (HasNumber lists.old.items lists.new.items at number) }
 {
     for index in 0..lists.len() {
-        if lists[index].session == session {
-            lists[index].numbers.push(number)?;
-            return Ok(());
+        if lists[index].session == at.session {
+            return lists[index].add(number, at.place);
         }
     }
     let mut numbers = Row::new(Vec::new(alloc));
     numbers.push(number)?;
-    lists.push(SessionWriters { session, numbers })?;
+    lists.push(SessionWriters {
+        session: at.session,
+        numbers,
+        last: at.place,
+    })?;
     Ok(())
 }
 
@@ -64,50 +67,113 @@ impl KeyWriters {
     }
 
     /// One writer more, the last of its session.
-    fn add(&mut self, alloc: Global, session: u32, number: u32) -> Result<(), NoMemory>
-        ensures { OnOk result (HasNumber self.old self.new session number) }
+    fn add(&mut self, alloc: Global, at: At, number: u32) -> Result<(), NoMemory>
+        ensures { OnOk result (HasNumber self.old self.new at number) }
     {
-        add_number(alloc, &mut self.lists, session, number)?;
+        add_number(alloc, &mut self.lists, at, number)?;
         Ok(())
     }
 }
 
-/// One writer more of a key.
-fn note_write(
-    alloc: Global,
-    writers: &mut BTreeMap<Name, KeyWriters>,
-    session: u32,
-    number: u32,
-    key: Name,
-) -> Result<(), NoMemory>
-    ensures { OnOk result (NotesWrite writers.old writers.new session number key) }
+/// The lists at an index; none past the end.
+fn lists_at(writers: &[KeyWriters], index: u32) -> &[SessionWriters]
+    ensures { result.now ≡ slice_index_or writers.now index [] }
 {
-    match writers.get_mut(&key) {
-        Some(lists) => return lists.add(alloc, session, number),
-        None => {}
+    match writers.get(index as usize) {
+        Some(lists) => lists.lists(),
+        None => &[],
     }
-    let mut lists = KeyWriters::new(alloc);
-    lists.add(alloc, session, number)?;
-    match writers.insert(key, lists) {
-        Ok(_) => Ok(()),
-        Err(_) => Err(NoMemory),
+}
+
+/// Lists for `len` keys.
+fn extend(alloc: Global, writers: &mut Vec<KeyWriters>, len: usize) -> Result<(), NoMemory>
+    ensures long { OnOk result (len ≤ length writers.new.items) }
+    ensures same { (k : ℕ) → slice_index_or writers.new.items k [] ≡ slice_index_or writers.old.items k [] }
+{
+    for _key in writers.len()..len {
+        writers.push(KeyWriters::new(alloc))?;
+    }
+    Ok(())
+}
+
+/// One writer more at an index.
+fn add_at(
+    alloc: Global,
+    writers: &mut Vec<KeyWriters>,
+    index: u32,
+    at: At,
+    number: u32,
+) -> Result<(), NoMemory>
+    ensures here { OnOk result (HasNumberAt writers.old.items writers.new.items index at number) }
+    ensures others { (k : ℕ) → k ≢ index → slice_index_or writers.new.items k [] ≡ slice_index_or writers.old.items k [] }
+{
+    extend(alloc, writers, index as usize + 1)?;
+    writers[index as usize].add(alloc, at, number)?;
+    Ok(())
+}
+
+/// The writers of each key but `init`, by the number of the key.
+#[derive(Drop)]
+pub(crate) struct Writers {
+    keys: SymbolTable,
+    writers: Vec<KeyWriters>,
+}
+
+impl Model for Writers {
+    ghost use Rattle.tcc_watch.specs.private.Writers.{AreWritersOf, WriterMap};
+
+    ghost Value = { WriterMap };
+
+    ghost view = { λ w. record { keys = w.keys; writers = w.writers.items } };
+
+    ghost invariant = { λ w. AreWritersOf w.keys w.writers.items };
+}
+
+impl Writers {
+    /// No keys.
+    pub(crate) fn new(alloc: Global) -> Writers
+        ensures { (x : List ℕ) → lists_in result x ≡ [] }
+    {
+        Writers {
+            keys: SymbolTable::new(alloc),
+            writers: Vec::new(alloc),
+        }
+    }
+
+    /// The writers of a key, session by session.
+    pub(crate) fn lists(&self, key: &Name) -> &[SessionWriters]
+        ensures { result.now ≡ lists_in self.now key.now }
+    {
+        match self.keys.find(key) {
+            Some(number) => lists_at(&self.writers, number),
+            None => &[],
+        }
+    }
+
+    /// One writer more of a key.
+    fn add(&mut self, alloc: Global, key: Name, at: At, number: u32) -> Result<(), NoMemory>
+        ensures { OnOk result (NotesWrite self.old self.new at number key) }
+    {
+        let index = self.keys.number(key)?;
+        add_at(alloc, &mut self.writers, index, at, number)?;
+        Ok(())
     }
 }
 
 /// A transaction writes these keys.
 pub(crate) fn note_writes(
     alloc: Global,
-    writers: &mut BTreeMap<Name, KeyWriters>,
-    session: u32,
+    writers: &mut Writers,
+    at: At,
     number: u32,
     keys: &[Name],
 ) -> Result<(), NoMemory>
     ghost h: { History }
-    requires { CanNote h writers.old session number keys.now }
+    requires { CanNote h writers.old at number keys.now }
     ensures { OnOk result (AreKeyWriters h (number + 1) writers.new) }
 {
     for key in keys {
-        note_write(alloc, writers, session, number, *key)?;
+        writers.add(alloc, *key, at, number)?;
     }
     Ok(())
 }

@@ -1,4 +1,4 @@
--- What is known at a moment of the anomalies before it.
+-- What is known at a checkpoint of the anomalies before it.
 use Rattle.std.proofs.Common.{◌≡◌, ℕ, zero, suc, ◌<◌, ◌≤◌, Bool, true, false, List, [], ◌∷◌, ◌++◌, Option, None, Some, Ok}
 use Rattle.std.proofs.Common.{refl, ap, sym, subst, ◌∙◌, arith, inl, inr, ◌⊎◌, append_assoc, append-nil}
 use Rattle.std.specs.Prelude.{Contains, fold}
@@ -8,23 +8,23 @@ use Rattle.std.proofs.lemmas.List.Sums.{fold-append}
 use Rattle.std.proofs.lemmas.List.Elements.{Contains-append_left, Contains-append_right, Contains-append_cases}
 use Rattle.tcc_rows.specs.Answers.{Answers, ending}
 use Rattle.tcc_rows.specs.Items.{finished_in, with_item}
-use Rattle.tcc_rows.specs.Recordings.{IsRecording, TakesMoment, has_seal}
-use Rattle.tcc_rows.specs.declared.recording.Moment.{Moment}
-use Rattle.tcc_rows.specs.declared.recording.Moment.TheVariants as moment
+use Rattle.tcc_rows.specs.Recordings.{IsRecording, TakesCheckpoint, has_seal}
+use Rattle.tcc_rows.specs.declared.recording.Checkpoint.{Checkpoint}
+use Rattle.tcc_rows.specs.declared.recording.Checkpoint.TheVariants as checkpoint
 use Rattle.tcc_rows.specs.declared.recording.RecordingWithin.{RecordingWithin}
 use Rattle.tcc_rows.specs.declared.rows.Item.{Item}
 use Rattle.tcc_rows.specs.declared.rows.Item.TheVariants as item
 use Rattle.tcc_txn.specs.Finished.{transaction_count}
 use Rattle.tcc_txn.specs.Snapshots.{Sessions}
 use Rattle.tcc_print.specs.Courses.{Said}
-use Rattle.tcc_print.specs.Moments.{is_due_after, sealed_after, sealed_in}
-use Rattle.tcc_print.specs.declared.last.Last.{Last}
+use Rattle.tcc_print.specs.Checkpoints.{is_due_after, sealed_after, sealed_in}
+use Rattle.tcc_print.specs.declared.previous.PreviousAnswer.{PreviousAnswer}
 use Rattle.tcc_print.specs.declared.options.Options.{Options}
 use Rattle.tcc_print.proofs.Counted.{grows}
 use Rattle.tcc_print.proofs.Courses.{HasAnswered, IsLast}
 use Rattle.tcc_print.proofs.LastSaid.{last_snapshot}
-use Rattle.tcc_print.proofs.Moments.{at_end-none, finished-seal}
-use Rattle.tcc_watch_run.specs.Watching.{IsAnomaly, IsWatched, WasAnomaly, moments_of}
+use Rattle.tcc_print.proofs.Checkpoints.{at_end-none, finished-seal}
+use Rattle.tcc_watch_run.specs.Watching.{IsAnomaly, IsWatched, WasAnomaly, checkpoints_of}
 use Rattle.tcc_watch_run.specs.declared.told.Told.{Told}
 use Rattle.tcc_watch_run.specs.private.Stages.{Knows, KnowsLast, KnowsNow, course}
 
@@ -162,21 +162,21 @@ none_said : (R : Sessions → Said → Type 0) (snapshots : List Sessions) → A
 none_said R [] all = refl
 none_said R (x ∷ snapshots) all = absurd all
 
--- ---- at the moment that comes
+-- ---- at the checkpoint that comes
 
 module _ {R B : Type 0} (remaining : R → Option (List ℕ)) (options : Options) (text : List ℕ) (old : RecordingWithin R B) (before now : Option (List ℕ))
-    (answered : Option (Last Told)) (way : HasAnswered remaining (course options (moments_of text)) text old before now answered) where
+    (answered : Option (PreviousAnswer Told)) (way : HasAnswered remaining (course options (checkpoints_of text)) text old before now answered) where
   abbrev ahead : List Sessions
   ahead = sealed_after way.taken way.ahead.items
 
-  parts : moments_of text ≡ sealed_in way.taken ++ ahead
+  parts : checkpoints_of text ≡ sealed_in way.taken ++ ahead
   parts = ap (λ (a : Answers). sealed_in a.items) way.whole ∙ sealed_in_parts [] way.taken way.ahead.items
 
   module _ (s : Sessions) (later : (e : Sessions) → Contains ahead e → transaction_count s ≤ transaction_count e)
       (more : transaction_count (finished_in way.taken) ≤ transaction_count s) where
-    -- what is known of the last moment says what is known of this one
+    -- what is known of the last checkpoint says what is known of this one
     known_now : (b : Bool) → is_due_after true way.taken ≡ false → transaction_count (finished_in way.taken) < transaction_count s
-        → KnowsNow options (moments_of text) (finished_in way.taken) b → Knows options (moments_of text) s b
+        → KnowsNow options (checkpoints_of text) (finished_in way.taken) b → Knows options (checkpoints_of text) s b
     known_now true none less (inl here) = (
       finished_in way.taken,
       subst (λ (l : List Sessions). Contains l (finished_in way.taken)) (sym parts)
@@ -188,7 +188,7 @@ module _ {R B : Type 0} (remaining : R → Option (List ℕ)) (options : Options
     known_now false none less (not_here, never) = λ (e, has, fewer, is).
         by e fewer is has (Contains-append_cases (sealed_in way.taken) ahead e (subst (λ (l : List Sessions). Contains l e) parts has))
       where
-        by : (e : Sessions) → transaction_count e < transaction_count s → IsAnomaly options e → Contains (moments_of text) e
+        by : (e : Sessions) → transaction_count e < transaction_count s → IsAnomaly options e → Contains (checkpoints_of text) e
             → Contains (sealed_in way.taken) e ⊎ Contains ahead e → ⊥
         by e fewer is has (inl past) = elim (in_sealed [] way.taken e past) [
           | inl less ↦ never (e, has, less, is)
@@ -196,45 +196,45 @@ module _ {R B : Type 0} (remaining : R → Option (List ℕ)) (options : Options
         ]
         by e fewer is has (inr past) = absurd (omega (arith, fewer, later e past))
 
-    none_yet : way.said ≡ [] → WasAnomaly options (moments_of text) s → ⊥
+    none_yet : way.said ≡ [] → WasAnomaly options (checkpoints_of text) s → ⊥
     none_yet nil (e, has, fewer, is) = by (Contains-append_cases (sealed_in way.taken) ahead e (subst (λ (l : List Sessions). Contains l e) parts has))
       where
         empty : sealed_in way.taken ≡ []
         empty =
-            none_said (IsWatched options (moments_of text)) (sealed_in way.taken)
-            (subst (λ (l : List Said). AllZip (IsWatched options (moments_of text)) (sealed_in way.taken) l) nil way.answers.0)
+            none_said (IsWatched options (checkpoints_of text)) (sealed_in way.taken)
+            (subst (λ (l : List Said). AllZip (IsWatched options (checkpoints_of text)) (sealed_in way.taken) l) nil way.answers.0)
 
         by : Contains (sealed_in way.taken) e ⊎ Contains ahead e → ⊥
         by (inl past) = none-in e (subst (λ (l : List Sessions). Contains l e) empty past)
         by (inr past) = absurd (omega (arith, fewer, later e past))
 
-    knows : KnowsLast options (moments_of text) s answered
+    knows : KnowsLast options (checkpoints_of text) s answered
     knows = by answered way.last
       where
-        by : (o : Option (Last Told)) → IsLast (course options (moments_of text)) o way.taken way.said → KnowsLast options (moments_of text) s o
+        by : (o : Option (PreviousAnswer Told)) → IsLast (course options (checkpoints_of text)) o way.taken way.said → KnowsLast options (checkpoints_of text) s o
         by None known apart = none_yet known.1
         by (Some last) known apart =
             known_now last.outcome.has_told known.0 (omega (arith, more, known.1.0, apart)) known.1.1.1
 
-  -- what comes of the recording there
-  pub knows_at : (new : RecordingWithin R B) (m : Moment)
-      → ((taken : List Item) (ahead : Answers) → IsRecording (course options (moments_of text)).limits remaining old taken ahead
-      → TakesMoment (course options (moments_of text)).limits remaining taken ahead (Ok m) new)
-      → (s : Sessions) → ((taken : List Item) (ahead : Answers) → IsRecording (course options (moments_of text)).limits remaining new taken ahead → s ≡ finished_in taken)
-      → KnowsLast options (moments_of text) s answered
+  -- the result of the recording there
+  pub knows_at : (new : RecordingWithin R B) (m : Checkpoint)
+      → ((taken : List Item) (ahead : Answers) → IsRecording (course options (checkpoints_of text)).limits remaining old taken ahead
+      → TakesCheckpoint (course options (checkpoints_of text)).limits remaining taken ahead (Ok m) new)
+      → (s : Sessions) → ((taken : List Item) (ahead : Answers) → IsRecording (course options (checkpoints_of text)).limits remaining new taken ahead → s ≡ finished_in taken)
+      → KnowsLast options (checkpoints_of text) s answered
   knows_at new m takes s finished = by m (takes way.taken way.ahead way.recorded)
     where
       next : (passed : List Item) (rest : Answers) → has_seal passed ≡ false → way.ahead.items ≡ passed ++ rest.items → s ≡ finished_in (way.taken ++ passed)
-          → KnowsLast options (moments_of text) s answered
+          → KnowsLast options (checkpoints_of text) s answered
       next passed rest none is same =
           knows s
           (λ e has. subst (λ (z : Sessions). transaction_count z ≤ transaction_count e) (sym same)
           (after_passed way.taken passed rest.items e none (subst (λ (l : List Item). Contains (sealed_after way.taken l) e) is has)))
           (subst (λ (z : Sessions). transaction_count (finished_in way.taken) ≤ transaction_count z) (sym same) (no_fewer way.taken passed))
 
-      by : (n : Moment) → TakesMoment (course options (moments_of text)).limits remaining way.taken way.ahead (Ok n) new → KnowsLast options (moments_of text) s answered
-      by moment.Seal (passed, rest, passes, recording) =
+      by : (n : Checkpoint) → TakesCheckpoint (course options (checkpoints_of text)).limits remaining way.taken way.ahead (Ok n) new → KnowsLast options (checkpoints_of text) s answered
+      by checkpoint.Seal (passed, rest, passes, recording) =
           next passed (record { items = item.Seal ∷ rest.items; fault = rest.fault }) passes.0 (ap (λ (a : Answers). a.items) passes.1)
           (finished _ rest recording ∙ finished-seal way.taken passed)
-      by moment.End (passed, passes, recording) =
+      by checkpoint.End (passed, passes, recording) =
           next passed (ending None) passes.0 (ap (λ (a : Answers). a.items) passes.1) (finished _ (ending None) recording)

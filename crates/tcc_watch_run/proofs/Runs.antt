@@ -5,10 +5,10 @@ use Rattle.tcc_txn.specs.Nested.{IsNested}
 use Rattle.tcc_txn.specs.Snapshots.{Sessions}
 use Rattle.tcc_txn.proofs.Nesting.{nested_itself}
 use Rattle.tcc_print.specs.Statuses.{code_of}
-use Rattle.tcc_print.specs.declared.last.Last.{Last}
+use Rattle.tcc_print.specs.declared.previous.PreviousAnswer.{PreviousAnswer}
 use Rattle.tcc_print.specs.declared.options.Options.{Options}
 use Rattle.tcc_print.specs.private.Courses.{AllAnswered, EndsEarly}
-use Rattle.tcc_watch_run.specs.Watching.{IsWatchRun, moments_of}
+use Rattle.tcc_watch_run.specs.Watching.{IsWatchRun, checkpoints_of}
 use Rattle.tcc_watch_run.specs.declared.following.Follower.{Follower}
 use Rattle.tcc_watch_run.specs.declared.told.Told.{Told}
 use Rattle.tcc_watch_run.specs.private.Following.{HasCaughtUp, IsFollowing}
@@ -16,19 +16,19 @@ use Rattle.tcc_watch_run.specs.private.Stages.{course, told_said}
 
 -- a run that ends early
 pub early : (options : Options) (text : List ℕ) (before after : Option (List ℕ)) (code : ℕ)
-    → EndsEarly (course options (moments_of text)) text before after code → IsWatchRun options text before after code
+    → EndsEarly (course options (checkpoints_of text)) text before after code → IsWatchRun options text before after code
 early options text before after code (said, last, is, ends, inl whole) = (said, last, is, ends, inl (whole.0, whole.2))
 early options text before after code (said, last, is, ends, inr cuts) = (said, last, is, ends, inr cuts)
 
 -- one that has answered all
-pub concluded : (options : Options) (text : List ℕ) (before after : Option (List ℕ)) (last : Last Told) (code : ℕ)
-    → AllAnswered (course options (moments_of text)) text before after last → code ≡ code_of last.outcome.status → IsWatchRun options text before after code
+pub concluded : (options : Options) (text : List ℕ) (before after : Option (List ℕ)) (last : PreviousAnswer Told) (code : ℕ)
+    → AllAnswered (course options (checkpoints_of text)) text before after last → code ≡ code_of last.outcome.status → IsWatchRun options text before after code
 concluded options text before after last code (said, is, ends, known, out) by = (said, told_said last.outcome, inl is, ends, inl (out, by))
 
 -- ---- the watch
 
 -- what was kept is what was found
-pub on_kept : {A E F : Type 0} (P : Type 0) (r : Result (Last A) E) (found : Result A F) → IfOk r (λ last. found ≡ Ok last.outcome) → OnOk found P → OnOk r P
+pub on_kept : {A E F : Type 0} (P : Type 0) (r : Result (PreviousAnswer A) E) (found : Result A F) → IfOk r (λ last. found ≡ Ok last.outcome) → OnOk found P → OnOk r P
 on_kept P (Ok last) found is on = subst (λ f. OnOk f P) is on
 on_kept P (Err e) found is on = tt
 

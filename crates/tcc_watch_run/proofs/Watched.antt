@@ -42,17 +42,17 @@ still_by options s text status committed sessions counted all is ends =
     = is ∙ (λ i. still_line options.json (number i) (names i)) in
     λ i. record { text = line i; status = ends i; certificate = None }
 
-module _ (options : Options) (moments : List Sessions) (w s : Sessions) (same : w ≡ s) (told : Told) where
+module _ (options : Options) (checkpoints : List Sessions) (w s : Sessions) (same : w ≡ s) (told : Told) where
   -- where there is no anomaly what was known stays
-  kept : (before after : Bool) → after ≡ before → (IsAnomaly options s → ⊥) → Knows options moments s before → KnowsNow options moments s after
-  kept true after is none knows = subst (λ (b : Bool). KnowsNow options moments s b) (sym is) (inr knows)
-  kept false after is none knows = subst (λ (b : Bool). KnowsNow options moments s b) (sym is) (none, knows)
+  kept : (before after : Bool) → after ≡ before → (IsAnomaly options s → ⊥) → Knows options checkpoints s before → KnowsNow options checkpoints s after
+  kept true after is none knows = subst (λ (b : Bool). KnowsNow options checkpoints s b) (sym is) (inr knows)
+  kept false after is none knows = subst (λ (b : Bool). KnowsNow options checkpoints s b) (sym is) (none, knows)
 
-  told_now : (after : Bool) → after ≡ true → IsAnomaly options s → KnowsNow options moments s after
-  told_now after is found = subst (λ (b : Bool). KnowsNow options moments s b) (sym is) (inl found)
+  told_now : (after : Bool) → after ≡ true → IsAnomaly options s → KnowsNow options checkpoints s after
+  told_now after is found = subst (λ (b : Bool). KnowsNow options checkpoints s b) (sym is) (inl found)
 
   pub consistent_told : (before : Bool) → IsVerdict w options.level verdict.Consistent → told_said told ≡ consistent_said options (history s)
-      → told.has_told ≡ before → Knows options moments s before → IsTold (course options moments) s told
+      → told.has_told ≡ before → Knows options checkpoints s before → IsTold (course options checkpoints) s told
   consistent_told before is text known knows =
       let fine : IsConsistent options s = subst (λ (z : Sessions). IsConsistent options z) same is in
       (inl (fine, text), kept before told.has_told known (λ found. fine.1 found.1) knows)
@@ -62,20 +62,20 @@ module _ (options : Options) (moments : List Sessions) (w s : Sessions) (same : 
 
   -- an anomaly after the first
   pub still_told : IsVerdict w options.level verdict.Anomaly → told_said told ≡ still_said options (history s) → told.has_told ≡ true
-      → Knows options moments s true → IsTold (course options moments) s told
+      → Knows options checkpoints s true → IsTold (course options checkpoints) s told
   still_told is text known knows =
       let found = found_in is in
       (inr (inl ((found, knows), text)), told_now told.has_told known found)
 
   -- and the first
   pub anomaly_told : IsVerdict w options.level verdict.Anomaly → IsAsExplained options s told → told.has_told ≡ true
-      → Knows options moments s false → IsTold (course options moments) s told
+      → Knows options checkpoints s false → IsTold (course options checkpoints) s told
   anomaly_told is (explained, said, text) known knows =
       let found = found_in is in
       (inr (inr ((λ fine. fine.1 found.1), (λ later. knows later.1), explained, said, text)), told_now told.has_told known found)
 
   pub unresolved_told : (before : Bool) → IsVerdict w options.level verdict.Unresolved → IsAsExplained options s told
-      → told.has_told ≡ before → Knows options moments s before → IsTold (course options moments) s told
+      → told.has_told ≡ before → Knows options checkpoints s before → IsTold (course options checkpoints) s told
   unresolved_told before is (explained, said, text) known knows =
       let found : IsVerdict s options.level verdict.Unresolved = subst (λ (z : Sessions). IsVerdict z options.level verdict.Unresolved) same is in (
         inr (inr ((λ fine. found fine.0), (λ later. found later.0.0), explained, said, text)),

@@ -12,7 +12,7 @@ use Rattle.tcc_graph.specs.Levels.{judged}
 use Rattle.tcc_graph.specs.Routes.{HasCycle}
 use Rattle.tcc_answer.specs.Json.{json_line}
 use Rattle.tcc_print.specs.Courses.{IsCourse, Said}
-use Rattle.tcc_print.specs.Moments.{sealed_in}
+use Rattle.tcc_print.specs.Checkpoints.{sealed_in}
 use Rattle.tcc_print.specs.Printed.{CutsOff}
 use Rattle.tcc_print.specs.Statuses.{code_of, order_status}
 use Rattle.tcc_print.specs.declared.options.Options.{Options}
@@ -79,29 +79,29 @@ IsAnomaly options s = (read_faults s ≡ []) × HasCycle (judged (history s) opt
 
 -- one of the snapshots that has fewer transactions is an anomaly
 abbrev pub WasAnomaly : Options → List Sessions → Sessions → Type 0
-WasAnomaly options moments s =
-    (earlier : Sessions) × Contains moments earlier × (transaction_count earlier < transaction_count s) × IsAnomaly options earlier
+WasAnomaly options checkpoints s =
+    (earlier : Sessions) × Contains checkpoints earlier × (transaction_count earlier < transaction_count s) × IsAnomaly options earlier
 
 -- it is an anomaly, and not the first one among the snapshots
 abbrev pub IsLaterAnomaly : Options → List Sessions → Sessions → Type 0
-IsLaterAnomaly options moments s = IsAnomaly options s × WasAnomaly options moments s
+IsLaterAnomaly options checkpoints s = IsAnomaly options s × WasAnomaly options checkpoints s
 
--- what a watch says of a snapshot, where it answers of these: of a consistent one, and of an anomaly after the first, how much it has; of
--- any other what explain --large says, with no certificate
+-- what a watch says of a snapshot, where it answers of these. Of a consistent one, and of an anomaly after the first, it says how much
+-- it has. Of any other it says what explain --large says, with no certificate
 abbrev pub IsWatched : Options → List Sessions → Sessions → Said → Type 0
-IsWatched options moments s said =
+IsWatched options checkpoints s said =
     (IsConsistent options s × (said ≡ consistent_said options (history s)))
-    ⊎ ((IsLaterAnomaly options moments s × (said ≡ still_said options (history s)))
-    ⊎ ((IsConsistent options s → ⊥) × (IsLaterAnomaly options moments s → ⊥)
+    ⊎ ((IsLaterAnomaly options checkpoints s × (said ≡ still_said options (history s)))
+    ⊎ ((IsConsistent options s → ⊥) × (IsLaterAnomaly options checkpoints s → ⊥)
     × (explained : Said) × IsSaidWithLarge options s explained × (said ≡ record explained { certificate = None })))
 
 -- the snapshots at the seals of the bytes
-abbrev pub moments_of : List ℕ → List Sessions
-moments_of bytes = sealed_in (answers_of bytes).items
+abbrev pub checkpoints_of : List ℕ → List Sessions
+checkpoints_of bytes = sealed_in (answers_of bytes).items
 
--- what a run does with the bytes: what is said at each seal, and at the end where it is due, goes out one after the other, and the
+-- what a run does with the bytes: what is said at each seal, and at the end where it is due, is written one after the other. The
 -- status is that of the last
 abbrev pub IsWatchRun : Options → List ℕ → Option (List ℕ) → Option (List ℕ) → ℕ → Type 0
 IsWatchRun options bytes before after code =
-    IsCourse Large (IsWatched options (moments_of bytes)) options bytes
+    IsCourse Large (IsWatched options (checkpoints_of bytes)) options bytes
     (λ text last. (Appends before after text × (code ≡ code_of last.status)) ⊎ CutsOff before after text code)

@@ -1,5 +1,5 @@
 //! A watch that takes what is new in a snapshot that grows.
-ghost use Rattle.std.specs.Prelude.{◌≡◌, ◌+◌, OnOk, IfOk, Some, if◌then◌else◌, unwrap_or};
+ghost use Rattle.std.specs.Prelude.{◌≡◌, ◌≤◌, ◌+◌, ◌^◌, OnErr, OnOk, IfOk, Some, if◌then◌else◌, unwrap_or};
 ghost use Rattle.std.specs.BTreeMap.{Updates, get};
 ghost use Rattle.std.specs.Cmp.Lexicographic.{slice_cmp};
 ghost use Rattle.std.specs.Ordering.{nat_cmp};
@@ -21,11 +21,11 @@ pub(crate) struct Follower {
     pub committed: usize,
 }
 
-/// One more, if this holds.
+/// One more, if this holds. It is out of memory only where one more is more than 64 bits count.
 fn with_one(count: usize, holds: bool) -> Result<usize, NoMemory>
-    ensures { IfOk result (λ more. more ≡ count + (if holds then 1 else 0)) }
+    ensures more { IfOk result (λ more. more ≡ count + (if holds then 1 else 0)) }
+    ensures many { OnErr result (2 ^ 64 ≤ count + 1) }
 {
-    // More transactions are held by no memory.
     if holds {
         count.checked_add(1).ok_or(NoMemory)
     } else {
@@ -81,7 +81,7 @@ impl Follower {
         }
     }
 
-    /// Takes the transactions of the session at an index in the snapshot that come after the first so many, which were taken.
+    /// Takes the transactions of the session at an index in the snapshot that come after the first `known`, which were taken.
     fn take_from(
         &mut self,
         alloc: Global,
@@ -116,7 +116,7 @@ impl Follower {
         let Some(name) = snapshot.name(i) else {
             return Err(NoMemory);
         };
-        // A session that is there has finished something.
+        // Each session of a snapshot has finished something.
         if snapshot.finished(i) == 0 {
             return Err(NoMemory);
         }
@@ -124,7 +124,7 @@ impl Follower {
         self.take_from(alloc, snapshot, i, *name, known)
     }
 
-    /// Takes what is new in the snapshot, of which it has taken the beginnings of sessions.
+    /// Takes what is new in the snapshot. What it has taken is how the sessions of the snapshot begin.
     pub(crate) fn catch_up(
         &mut self,
         alloc: Global,

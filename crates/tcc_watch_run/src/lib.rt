@@ -1,12 +1,11 @@
-//! Runs of `tcc watch` from bytes to bytes: answers while a test runs, each at the cost of what is new as long as all is consistent, and after
-//! an anomaly.
-//! Nothing here knows of command lines or files.
+//! Runs of `tcc watch` from bytes to bytes: answers while a test runs. Each costs what is new, as long as all is consistent, and again
+//! after the first anomaly. Command lines and files belong to other crates.
 #![tactic(auto)]
 
 mod following;
 mod lines;
+mod printing;
 mod running;
-mod telling;
 mod told;
 
 pub use running::run_watch;

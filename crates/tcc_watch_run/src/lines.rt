@@ -1,4 +1,4 @@
-//! The lines of histories of which no more is said than how much they have.
+//! The lines of histories of which only their size is said.
 ghost use Rattle.std.specs.Prelude.{◌≡◌, IfOk};
 ghost use Rattle.serde_json.specs.View.{view};
 ghost use Rattle.tcc_answer.specs.Json.{json_line};
@@ -32,7 +32,7 @@ fn consistent_object(alloc: Global, transactions: usize, sessions: u32) -> Resul
     object_line(alloc, &consistent_json(alloc, transactions, sessions)?)
 }
 
-/// The line of a consistent history of so many committed transactions and sessions.
+/// The line of a consistent history with these counts of committed transactions and sessions.
 pub(crate) fn consistent_line(
     alloc: Global,
     json: bool,
@@ -74,7 +74,7 @@ fn still_object(alloc: Global, transactions: usize, sessions: u32) -> Result<Vec
     object_line(alloc, &still_json(alloc, transactions, sessions)?)
 }
 
-/// The line of a history of so many committed transactions and sessions that still has an anomaly.
+/// The line of a history that still has an anomaly, with these counts of committed transactions and sessions.
 pub(crate) fn still_line(
     alloc: Global,
     json: bool,

@@ -22,13 +22,13 @@ use tcc_watch::Verdict;
 pub(crate) struct Told {
     pub text: Vec<u8>,
     pub status: Status,
-    /// The read faults that the text tells.
+    /// The read faults that the text reports.
     pub faults: Vec<ReadFault>,
-    /// Whether an anomaly was told by this text, or by one before it.
+    /// Whether an anomaly was reported by this text, or by one before it.
     pub has_told: bool,
 }
 
-/// How a run ends that found so many committed transactions to be consistent.
+/// How a run ends that found this number of committed transactions to be consistent.
 fn consistent_status(transactions: usize, required: u32) -> Status
     ensures { result ≡ order_status required (transactions + 1) }
 {
@@ -58,7 +58,7 @@ fn consistent(
     })
 }
 
-/// What is said of an anomaly where one was told before.
+/// What is said of an anomaly where one was reported before.
 fn still(
     alloc: Global,
     options: &Options,
@@ -76,7 +76,7 @@ fn still(
     })
 }
 
-/// What is said of any other, with which an anomaly was told or not.
+/// What is said of any other snapshot, where with it an anomaly was reported or not.
 fn explained<T: Threads + Sync, G: Watcher>(
     run: &RunContext<T, G>,
     snapshot: &LargeSnapshot,
@@ -98,8 +98,8 @@ fn explained<T: Threads + Sync, G: Watcher>(
 }
 
 impl Told {
-    /// What is to be said of the snapshot that the watch has followed, where an anomaly was told before or not. That its history is
-    /// consistent the watch knows, and that an anomaly is still there; else all of it is explained.
+    /// What is to be said of the snapshot that the watch has followed, where an anomaly was reported before or not. The watch knows
+    /// whether its history is consistent, and whether an anomaly is still there. Else all of it is explained.
     pub(crate) fn of<T: Threads + Sync, G: Watcher>(
         run: &RunContext<T, G>,
         follower: &Follower,
@@ -107,8 +107,8 @@ impl Told {
         has_told: bool,
     ) -> Result<Told, NoMemory>
         requires { HasCaughtUp follower.now snapshot.now }
-        ensures { (moments : List Sessions) → Knows run.now.options.now moments snapshot.now has_told
-            → IfOk result (IsTold (course run.now.options.now moments) snapshot.now) }
+        ensures { (checkpoints : List Sessions) → Knows run.now.options.now checkpoints snapshot.now has_told
+            → IfOk result (IsTold (course run.now.options.now checkpoints) snapshot.now) }
     {
         let verdict = follower.watch.answer(run.alloc, run.options.level)?;
         match verdict {

@@ -1,4 +1,4 @@
--- Snapshots as those within the small limits.
+-- Snapshots seen as ones within the small limits.
 use Rattle.std.specs.Prelude.{◌≡◌}
 use Rattle.tcc_txn.specs.Finished.{KeepsLimits}
 use Rattle.tcc_txn.specs.Snapshots.{Sessions}

@@ -4,7 +4,7 @@ use Rattle.tcc_bits.specs.Packed.{value_in, capped_at}
 use Rattle.tcc_bits.specs.declared.packed.Values.{Values}
 use Rattle.tcc_bits.specs.declared.packed.Values.TheVariants.{Narrow, Wide}
 
--- values that are capped where there is a cap
+-- values that are capped if there is a cap
 abbrev pub capped_by : Option ℕ → List (Option ℕ) → List (Option ℕ)
 capped_by None values = values
 capped_by (Some cap) values = map (capped_at cap) values

@@ -1,4 +1,4 @@
--- How a book lies in memory.
+-- How a book is stored in memory.
 use Rattle.std.specs.Prelude.{◌≡◌, ◌≢◌, ◌⊎◌, ℕ, ◌+◌, ◌<◌, ◌≤◌, All, true, if◌then◌else◌, List, []}
 use Rattle.std.specs.Prelude.{◌∷◌, ◌++◌, length, map, slice_index_or, Some, is_some, Result, Ok}
 use Rattle.std.specs.Prelude.{Err, false}
@@ -14,7 +14,7 @@ use Rattle.tcc_book.specs.declared.entry.Entry.{Entry}
 use Rattle.tcc_book.specs.declared.fault.RecordFault.{RecordFault}
 use Rattle.tcc_book.specs.declared.fault.RecordFault.TheVariants as refused
 
--- the positions of the session's records in a journal that begins at this one
+-- the positions of the session's records in a journal whose first position is n
 abbrev pub positions_from : List ℕ → ℕ → List Entry → List ℕ
 positions_from session n [] = []
 positions_from session n (e ∷ es) = if same session e.session then n ∷ positions_from session (n + 1) es else positions_from session (n + 1) es
@@ -44,7 +44,7 @@ pub record Relists (old : Positions) (session : List ℕ) (list : Vec ℕ) (item
 abbrev pub Keeps : Positions → List ℕ → Positions → Type 0
 Keeps old session new = (new ≡ old) ⊎ ((list : Vec ℕ) × Relists old session list list.items new)
 
--- a position is added to the list of a session that has so many, or the lists stay
+-- a position is added to the list of a session, if it has `held` of them; or the lists stay
 abbrev pub AddsPosition : {U : Type 0} → Positions → List ℕ → ℕ → ℕ → Result U RecordFault → Positions → Type 0
 AddsPosition old session held position (Ok done) new =
     (list : Vec ℕ) × (length list.items ≡ held) × Relists old session list (list.items ++ position ∷ []) new

@@ -1,4 +1,4 @@
--- The rule that the word and the views of all seats keep between any two steps, and what each step tells its seat.
+-- The rule that the word and the views of all seats keep between any two steps, and what each step reports to its seat.
 use Rattle.std.specs.Prelude.{◌≡◌, ℕ, ◌≤◌, ◌⊎◌, List, [], ◌∷◌, min}
 use mathlib.Core.Option.{some}
 use lib.ListN.{get_elem?}
@@ -49,15 +49,15 @@ known_of Spent = newcomer 0
 abbrev pub IsLive : Own → Type 0
 IsLive me = me ≡ own_of (known_of me.0)
 
--- the seat was told this word
+-- this word was reported to the seat
 abbrev pub IsTold : Known → ℕ → Own → Type 0
 IsTold known word after = (after ≡ own_of (with_sight known word)) × (known.floor ≤ word)
 
--- a look: the seat is told the word that was found, which is at most all that it knew
+-- a look: the word that was found is reported to the seat, and is at most everything that it knew
 abbrev pub Looks : Own → ℕ → Own → Type 0
 Looks before found after = IsAtMostAll found (known_of before.0) × IsTold (known_of before.0) found after
 
--- an offer: it is noted, and the seat is told the word that the offer leaves, which is at most all that it knew
+-- an offer: it is noted, and the word that it leaves is reported to the seat; that is at most everything that it knew
 abbrev pub Offers : ℕ → Own → ℕ → Own → Type 0
 Offers cost before found after =
     IsAtMostAll (min found cost) (known_of before.0) × IsTold (with_offer (known_of before.0) cost) (min found cost) after

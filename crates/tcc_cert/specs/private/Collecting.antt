@@ -25,7 +25,7 @@ abbrev pub far_row_in : Part → List (List ℕ)
 far_row_in (part.Far row) = row ∷ []
 far_row_in _ = []
 
--- one link or one row more where the part is one
+-- one more link or row where the part is one
 pub record HasRow (given : Part) (old new : Tables) : Type 0 where
   pub links : new.links.items ≡ old.links.items ++ link_in given
   pub clocks : new.clocks.items ≡ old.clocks.items ++ clock_in given

@@ -1,4 +1,4 @@
--- The words of a line that goes out.
+-- The words of a line that is written.
 use Rattle.std.specs.Prelude.{ℕ, List, decimal}
 use Rattle.tcc_cert.specs.declared.lines.Word.{Word}
 use Rattle.tcc_cert.specs.declared.lines.Word.TheVariants.{Text, Number}

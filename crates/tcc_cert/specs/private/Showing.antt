@@ -1,4 +1,4 @@
--- What is answered of a line, and of the rest of a text.
+-- What is returned for a line, and for the rest of a text.
 use Rattle.std.specs.Prelude.{ℕ, ◌≡◌, ◌⊎◌, List, Result, Ok, Err}
 use Rattle.std.specs.Global.{Vec}
 use Rattle.tcc_cert.specs.declared.fault.CertFault.{CertFault}
@@ -17,7 +17,7 @@ abbrev pub ShowsItems : {X : Type 0} → Result (Vec X) CertFaultKind → Result
 ShowsItems (Ok vec) shown = shown ≡ Ok vec.items
 ShowsItems (Err kind) shown = (shown ≡ Err kind) ⊎ (kind ≡ NoMemory)
 
--- what a line shows, as what comes of the line with this number
+-- what a line shows, as the result of the line with this number
 abbrev pub at_line : {X : Type 0} → ℕ → Result X CertFaultKind → Result X CertFault
 at_line number (Ok x) = Ok x
 at_line number (Err kind) = Err (record { line = number; kind = kind })

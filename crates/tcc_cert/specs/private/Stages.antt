@@ -1,4 +1,4 @@
--- Where in a text a reader of parts stands.
+-- How far into a text a reader of parts is.
 use Rattle.std.specs.Prelude.{ℕ, ◌≡◌, ◌<◌, List, Option, Result, Ok, Err}
 use Rattle.tcc_cert.specs.declared.fault.CertFault.{CertFault}
 use Rattle.tcc_cert.specs.declared.part.Part.{Part}
@@ -6,8 +6,8 @@ use Rattle.tcc_cert.specs.declared.part.Part.TheVariants as part
 use Rattle.tcc_cert.specs.declared.reading.input.Input.{Input}
 use Rattle.tcc_cert.specs.declared.reading.stages.Stage.{Stage}
 use Rattle.tcc_cert.specs.declared.reading.stages.Stage.TheVariants as stage
-use Rattle.tcc_cert.specs.declared.reading.stages.Coming.{Coming}
-use Rattle.tcc_cert.specs.declared.reading.stages.Coming.TheVariants as coming
+use Rattle.tcc_cert.specs.declared.reading.stages.ExpectedPart.{ExpectedPart}
+use Rattle.tcc_cert.specs.declared.reading.stages.ExpectedPart.TheVariants as coming
 use Rattle.tcc_cert.specs.InputBytes.{HasFailed}
 use Rattle.tcc_cert.specs.Parts.{Parts, FaultsIn, IsFirst}
 use Rattle.tcc_cert.specs.Ahead.{rows_at, IsAheadIn}
@@ -17,14 +17,14 @@ abbrev pub TakesStep : {R : Type 0} → (R → Option (List ℕ)) → ℕ → Pa
 TakesStep remaining wanted ahead (Ok given) new = (rest : Parts) × IsFirst given.0 ahead rest × IsAheadIn remaining new given.1 rest
 TakesStep remaining wanted ahead (Err fault) new = FaultsIn (HasFailed new) wanted ahead fault
 
--- behind a claim something is to come that is not the whole text
+-- something is still to come after a claim, and not the whole text
 abbrev pub IsBegun : Stage → Type 0
 IsBegun (stage.Going coming.Whole) = ⊥
 IsBegun (stage.Going at) = Unit {0}
 IsBegun stage.Ended = ⊥
 IsBegun (stage.Stopped fault) = ⊥
 
--- behind a link or a row fewer of them are left than these
+-- after a link or a row fewer of them are left than this many
 abbrev pub HasFewer : ℕ → Stage → Type 0
 HasFewer left (stage.Going coming.Whole) = ⊥
 HasFewer left (stage.Going at) = rows_at at < left
@@ -37,13 +37,13 @@ IsClaimStep (part.Order head, after) = IsBegun after
 IsClaimStep (part.Cycle head, after) = IsBegun after
 IsClaimStep (_, after) = ⊥
 
--- what a later one gives where so many rows are left
+-- what a later step gives where this many rows are left
 abbrev pub IsRowStep : ℕ → Part × Stage → Type 0
 IsRowStep left (part.Order head, after) = ⊥
 IsRowStep left (part.Cycle head, after) = ⊥
 IsRowStep left (part.End, after) = after ≡ stage.Ended
 IsRowStep left (_, after) = HasFewer left after
 
-abbrev pub IsStepAt : Coming → Part × Stage → Type 0
+abbrev pub IsStepAt : ExpectedPart → Part × Stage → Type 0
 IsStepAt coming.Whole given = IsClaimStep given
 IsStepAt at given = IsRowStep (rows_at at) given

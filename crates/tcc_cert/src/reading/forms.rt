@@ -5,7 +5,7 @@ ghost use Rattle.tcc_cert.specs.Reading.{claim_sizes, count_of, cycle_sizes, der
 use super::decimals::number_of;
 use super::input::Input;
 use super::words::{Entry, Said, WordLine, next_line};
-use crate::ranges::{Scale, ranges_at};
+use crate::ranges::{TextFormat, ranges_at};
 use crate::{CertFault, CertFaultKind};
 use std::alloc::Global;
 use std::io::Read;
@@ -14,7 +14,7 @@ use tcc_txn::Name;
 
 /// A link without its walk, and how many steps that has.
 #[derive(Drop)]
-pub(crate) struct Head {
+pub(crate) struct HeaderLine {
     pub(crate) link: Link,
     pub(crate) steps: u32,
 }
@@ -34,22 +34,22 @@ pub(crate) struct CycleSizes {
     pub(crate) cost: u32,
 }
 
-/// What a claim is of, and how long its parts are. Of an order the versions say different things.
+/// What a claim is about, and how long its parts are. The versions say different things about an order.
 #[derive(Drop)]
 pub(crate) enum Sizes<O> {
     Order(O),
     Cycle(CycleSizes),
 }
 
-/// The number of a transaction.
-fn transaction_of(scale: Scale, word: &[u8]) -> Said<u32>
+/// The index of a transaction.
+fn transaction_of(scale: TextFormat, word: &[u8]) -> Said<u32>
     ensures { result ≡ transaction_of scale word.now }
 {
     number_of(word, 0, ranges_at(scale).number)
 }
 
 /// How many transactions, links or steps.
-pub(crate) fn count_of(scale: Scale, word: &[u8]) -> Said<u32>
+pub(crate) fn count_of(scale: TextFormat, word: &[u8]) -> Said<u32>
     ensures { result ≡ count_of scale word.now }
 {
     number_of(word, 1, ranges_at(scale).count)
@@ -65,7 +65,7 @@ fn key_of(word: &[u8]) -> Said<Name>
 }
 
 /// `u v`
-fn session_of(scale: Scale, from: &[u8], to: &[u8]) -> Said<Step>
+fn session_of(scale: TextFormat, from: &[u8], to: &[u8]) -> Said<Step>
     ensures { result ≡ session_of scale from.now to.now }
 {
     Ok(Step::Session {
@@ -75,7 +75,7 @@ fn session_of(scale: Scale, from: &[u8], to: &[u8]) -> Said<Step>
 }
 
 /// `u v KEY`
-fn reads_of(scale: Scale, from: &[u8], to: &[u8], key: &[u8]) -> Said<Step>
+fn reads_of(scale: TextFormat, from: &[u8], to: &[u8], key: &[u8]) -> Said<Step>
     ensures { result ≡ reads_of scale from.now to.now key.now }
 {
     Ok(Step::Reads {
@@ -85,8 +85,8 @@ fn reads_of(scale: Scale, from: &[u8], to: &[u8], key: &[u8]) -> Said<Step>
     })
 }
 
-/// What stands behind `S`.
-fn session_fields(scale: Scale, fields: &[&[u8]]) -> Said<Step>
+/// What comes after `S`.
+fn session_fields(scale: TextFormat, fields: &[&[u8]]) -> Said<Step>
     ensures { result ≡ two_words (session_of scale) (map (λ word. word.now) fields.now) }
 {
     match fields {
@@ -95,8 +95,8 @@ fn session_fields(scale: Scale, fields: &[&[u8]]) -> Said<Step>
     }
 }
 
-/// What stands behind `R`.
-fn reads_fields(scale: Scale, fields: &[&[u8]]) -> Said<Step>
+/// What comes after `R`.
+fn reads_fields(scale: TextFormat, fields: &[&[u8]]) -> Said<Step>
     ensures { result ≡ three_words (reads_of scale) (map (λ word. word.now) fields.now) }
 {
     match fields {
@@ -108,7 +108,7 @@ fn reads_fields(scale: Scale, fields: &[&[u8]]) -> Said<Step>
 impl WordLine for Step {
     ghost form = { step_line };
 
-    fn of_words(_alloc: Global, scale: Scale, words: &[&[u8]]) -> Said<Step> {
+    fn of_words(_alloc: Global, scale: TextFormat, words: &[&[u8]]) -> Said<Step> {
         let Some((word, fields)) = words.split_first() else {
             return Err(CertFaultKind::Word);
         };
@@ -125,7 +125,11 @@ impl WordLine for Step {
 impl Entry for Step {
     ghost entry = { λ scale. words scale (step_line scale) };
 
-    fn next<R: Read>(alloc: Global, input: &mut Input<R>, scale: Scale) -> Result<Step, CertFault> {
+    fn next<R: Read>(
+        alloc: Global,
+        input: &mut Input<R>,
+        scale: TextFormat,
+    ) -> Result<Step, CertFault> {
         next_line(alloc, input, scale)
     }
 }
@@ -133,13 +137,13 @@ impl Entry for Step {
 /// `b a KEY c W`
 fn derived_of(
     alloc: Global,
-    scale: Scale,
+    scale: TextFormat,
     from: &[u8],
     to: &[u8],
     key: &[u8],
     reader: &[u8],
     steps: &[u8],
-) -> Said<Head>
+) -> Said<HeaderLine>
     ensures { result ≡ derived_of scale from.now to.now key.now reader.now steps.now }
 {
     let link = Link::Derived {
@@ -149,14 +153,14 @@ fn derived_of(
         reader: transaction_of(scale, reader)?,
         walk: Walk::new(Vec::new(alloc)),
     };
-    Ok(Head {
+    Ok(HeaderLine {
         link,
         steps: count_of(scale, steps)?,
     })
 }
 
-/// What stands behind `D`.
-fn derived_fields(alloc: Global, scale: Scale, fields: &[&[u8]]) -> Said<Head>
+/// What comes after `D`.
+fn derived_fields(alloc: Global, scale: TextFormat, fields: &[&[u8]]) -> Said<HeaderLine>
     ensures { result ≡ five_words (derived_of scale) (map (λ word. word.now) fields.now) }
 {
     match fields {
@@ -166,19 +170,19 @@ fn derived_fields(alloc: Global, scale: Scale, fields: &[&[u8]]) -> Said<Head>
 }
 
 /// A link of one step.
-fn head_of_step(step: Step) -> Head
+fn head_of_step(step: Step) -> HeaderLine
     ensures { result ≡ head_of_step step }
 {
-    Head {
+    HeaderLine {
         link: Link::of(step),
         steps: 0,
     }
 }
 
-impl WordLine for Head {
+impl WordLine for HeaderLine {
     ghost form = { head_line };
 
-    fn of_words(alloc: Global, scale: Scale, words: &[&[u8]]) -> Said<Head> {
+    fn of_words(alloc: Global, scale: TextFormat, words: &[&[u8]]) -> Said<HeaderLine> {
         match words {
             [word, fields @ ..] if *word == b"D".as_slice() => derived_fields(alloc, scale, fields),
             _ => Ok(head_of_step(Step::of_words(alloc, scale, words)?)),
@@ -187,7 +191,7 @@ impl WordLine for Head {
 }
 
 /// `N S`
-fn order_sizes(scale: Scale, transactions: &[u8], sessions: &[u8]) -> Said<OrderSizes>
+fn order_sizes(scale: TextFormat, transactions: &[u8], sessions: &[u8]) -> Said<OrderSizes>
     ensures { result ≡ order_sizes scale transactions.now sessions.now }
 {
     Ok(OrderSizes {
@@ -197,7 +201,12 @@ fn order_sizes(scale: Scale, transactions: &[u8], sessions: &[u8]) -> Said<Order
 }
 
 /// `N M L`
-fn cycle_sizes(scale: Scale, transactions: &[u8], links: &[u8], cost: &[u8]) -> Said<CycleSizes>
+fn cycle_sizes(
+    scale: TextFormat,
+    transactions: &[u8],
+    links: &[u8],
+    cost: &[u8],
+) -> Said<CycleSizes>
     ensures { result ≡ cycle_sizes scale transactions.now links.now cost.now }
 {
     Ok(CycleSizes {
@@ -210,7 +219,7 @@ fn cycle_sizes(scale: Scale, transactions: &[u8], links: &[u8], cost: &[u8]) -> 
 impl WordLine for OrderSizes {
     ghost form = { λ scale. two_words (order_sizes scale) };
 
-    fn of_words(_alloc: Global, scale: Scale, words: &[&[u8]]) -> Said<OrderSizes> {
+    fn of_words(_alloc: Global, scale: TextFormat, words: &[&[u8]]) -> Said<OrderSizes> {
         match words {
             [transactions, sessions] => order_sizes(scale, transactions, sessions),
             _ => Err(CertFaultKind::Count),
@@ -221,7 +230,7 @@ impl WordLine for OrderSizes {
 impl WordLine for CycleSizes {
     ghost form = { λ scale. three_words (cycle_sizes scale) };
 
-    fn of_words(_alloc: Global, scale: Scale, words: &[&[u8]]) -> Said<CycleSizes> {
+    fn of_words(_alloc: Global, scale: TextFormat, words: &[&[u8]]) -> Said<CycleSizes> {
         match words {
             [transactions, links, cost] => cycle_sizes(scale, transactions, links, cost),
             _ => Err(CertFaultKind::Count),
@@ -232,7 +241,7 @@ impl WordLine for CycleSizes {
 impl<O: WordLine> WordLine for Sizes<O> {
     ghost form = { λ scale. claim_sizes (O.form scale) scale };
 
-    fn of_words(alloc: Global, scale: Scale, words: &[&[u8]]) -> Said<Sizes<O>> {
+    fn of_words(alloc: Global, scale: TextFormat, words: &[&[u8]]) -> Said<Sizes<O>> {
         let Some((word, fields)) = words.split_first() else {
             return Err(CertFaultKind::Word);
         };

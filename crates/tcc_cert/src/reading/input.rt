@@ -4,12 +4,12 @@ ghost use Rattle.tcc_cert.specs.{WindowBytes.window_bytes, private.Showing.at_li
 
 use super::source::Source;
 use super::window::Window;
-use crate::ranges::{Scale, ranges_at};
+use crate::ranges::{TextFormat, ranges_at};
 use crate::{CertFault, CertFaultKind};
 use std::io::Read;
 
-/// A reader, the bytes of it that wait, how many of these belong to the line that was read last, its line feed among
-/// them, and the number of the next line.
+/// A reader and those of its bytes that wait; how many of these belong to the line that was read last, with its line feed;
+/// and the number of the next line.
 #[derive(Drop)]
 pub(crate) struct Input<R> {
     source: Source<R>,
@@ -20,7 +20,7 @@ pub(crate) struct Input<R> {
     ghost counted: { 0 < number },
 }
 
-/// What comes of the line with this number.
+/// The result of the line with this number.
 pub(crate) fn at_line<T: Drop>(line: u64, shown: Result<T, CertFaultKind>) -> Result<T, CertFault>
     ensures { result ≡ at_line line shown }
 {
@@ -30,14 +30,15 @@ pub(crate) fn at_line<T: Drop>(line: u64, shown: Result<T, CertFaultKind>) -> Re
     }
 }
 
-/// Where the first line feed stands.
+/// Where the first line feed is.
 fn first_feed(bytes: &[u8]) -> Option<usize>
     ensures { result ≡ position (λ byte. byte == 10) bytes.now }
 {
     bytes.iter().position(|byte| *byte == b'\n')
 }
 
-/// How many bytes stand before the first line feed, or in all. None of the first `searched` is one.
+/// How many bytes come before the first line feed, or how many there are where there is none. None of the first `searched`
+/// is a line feed.
 fn line_length(bytes: &[u8], searched: usize) -> usize
     requires within { searched ≤ length bytes.now }
     requires none { line_length (take searched bytes.now) ≡ searched }
@@ -75,7 +76,7 @@ impl<R: Read> Input<R> {
         &self.window.as_slice()[..self.passed.saturating_sub(1)]
     }
 
-    /// The first bytes behind the line that was read last, where none was.
+    /// The first `count` of the bytes that wait.
     pub(crate) fn ahead(&self, count: usize) -> &[u8]
         requires { count ≤ length (window_bytes self.now.window) }
         ensures { result.now ≡ take count (window_bytes self.now.window) }
@@ -93,7 +94,7 @@ impl<R: Read> Input<R> {
         }
     }
 
-    /// From the first of the bytes that wait on, the reader gives at most so many bytes; to be asked for more is a failure.
+    /// The reader gives at most `most` bytes, counted from the first that waits. To be asked for more is a failure.
     pub(crate) fn limit(&mut self, most: usize)
         ensures same { (at : Position) → IsAt R.remaining self.old at → IsAt R.remaining self.new at }
         ensures works { AsBefore self.old self.new }
@@ -106,7 +107,7 @@ impl<R: Read> Input<R> {
         self.source.limit(most.saturating_sub(held));
     }
 
-    /// Reads until the next line, of at most so many bytes, is held, and says how long it is.
+    /// Reads until the next line, of at most `most` bytes, is held, and returns how long it is.
     pub(crate) fn find_line(&mut self, most: usize) -> Result<usize, CertFaultKind>
         requires passed { self.old.passed ≡ 0 }
         requires room { most < WINDOW_BYTES }
@@ -138,7 +139,7 @@ impl<R: Read> Input<R> {
         }
     }
 
-    /// Moves on to the next line, of at most so many bytes, and gives its number.
+    /// Moves on to the next line, of at most `most` bytes, and returns its number.
     pub(crate) fn next(&mut self, most: usize) -> Result<u64, CertFault>
         requires { most < WINDOW_BYTES }
         ensures works { OnOk result (AsBefore self.old self.new) }
@@ -164,8 +165,8 @@ impl<R: Read> Input<R> {
         }
     }
 
-    /// Takes the next line, one behind the first: how long it may be is told by the text's scale.
-    pub(crate) fn next_of(&mut self, scale: Scale) -> Result<u64, CertFault>
+    /// Takes the next line, one after the first. The text's scale says how long it may be.
+    pub(crate) fn next_of(&mut self, scale: TextFormat) -> Result<u64, CertFault>
         ensures works { OnOk result (AsBefore self.old self.new) }
         ensures slack { OnOk result (KeepsSlack R.remaining self.old.source self.new.source) }
         ensures line { (at : Position) → IsAt R.remaining self.old at → TakesLine R.remaining (ranges_at scale).line_bytes at result self.new }
@@ -173,7 +174,7 @@ impl<R: Read> Input<R> {
         self.next(ranges_at(scale).line_bytes)
     }
 
-    /// Nothing stands behind the last line.
+    /// Nothing comes after the last line.
     pub(crate) fn end(&mut self) -> Result<(), CertFault>
         ensures works { OnOk result (AsBefore self.old self.new) }
         ensures spare { OnOk result (0 < slack R.remaining self.old.source) }

@@ -7,13 +7,13 @@ ghost use Rattle.tcc_cert.specs.LargeReading.{large_behind_header, large_certifi
 
 use super::forms::{CycleSizes, Sizes};
 use super::input::{Input, at_line};
-use super::large_forms::{LargeOrderSizes, Tail};
+use super::large_forms::{FooterLine, LargeOrderSizes};
 use super::large_reader::LargeReader;
 use super::links::entries;
 use super::mark;
 use super::taking::give_links;
 use super::words::next_line;
-use crate::ranges::{MAX_HEADER_BYTES, Scale};
+use crate::ranges::{MAX_HEADER_BYTES, TextFormat};
 use crate::{
     CertFault, CertFaultKind, LargeCertificate, LargeHead, LinksHead, LinksSizes, Run, Runs,
     RunsClaim, TakesLinks,
@@ -22,34 +22,34 @@ use std::alloc::Global;
 use std::io::Read;
 use tcc_graph::Level;
 
-/// So many runs, and the last line.
+/// `count` runs, and the last line.
 fn runs<R: Read>(alloc: Global, input: &mut Input<R>, count: u32) -> Result<Runs, CertFault>
     ensures works { OnOk result (AsBefore input.old input.new) }
     ensures slack { OnOk result (KeepsSlack R.remaining input.old.source input.new.source) }
     ensures gives { (at : Position) → IsAt R.remaining input.old at → Gives R.remaining at (runs_at count at) result input.new }
 {
-    let runs = entries::<Run, R>(alloc, input, Scale::Large, count)?;
-    mark(alloc, input, Scale::Large, b"end")?;
+    let runs = entries::<Run, R>(alloc, input, TextFormat::Large, count)?;
+    mark(alloc, input, TextFormat::Large, b"end")?;
     Ok(runs)
 }
 
-/// What stands behind the line behind the last link.
+/// What comes after the line that follows the last link.
 fn least<R: Read>(
     alloc: Global,
     input: &mut Input<R>,
-    tail: Tail,
+    tail: FooterLine,
 ) -> Result<Option<Runs>, CertFault>
     ensures works { OnOk result (AsBefore input.old input.new) }
     ensures slack { OnOk result (KeepsSlack R.remaining input.old.source input.new.source) }
     ensures gives { (at : Position) → IsAt R.remaining input.old at → Gives R.remaining at (least_at tail at) result input.new }
 {
     match tail {
-        Tail::Least { runs: count } => Ok(Some(runs(alloc, input, count)?)),
-        Tail::End => Ok(None),
+        FooterLine::Least { runs: count } => Ok(Some(runs(alloc, input, count)?)),
+        FooterLine::End => Ok(None),
     }
 }
 
-/// The claim of a cycle, behind its sizes, whose links are taken.
+/// The claim of a cycle, after its sizes, whose links are taken.
 fn cycle<S: TakesLinks, R: Read>(
     alloc: Global,
     input: &mut Input<R>,
@@ -63,12 +63,12 @@ fn cycle<S: TakesLinks, R: Read>(
 {
     taker.start(sizes);
     give_links(alloc, input, sizes.links, taker)?;
-    let tail = next_line::<Tail, R>(alloc, input, Scale::Large)?;
+    let tail = next_line::<FooterLine, R>(alloc, input, TextFormat::Large)?;
     let least = least(alloc, input, tail)?;
     Ok(LargeHead::Cycle(LinksHead { sizes, least }))
 }
 
-/// What stands behind the first line.
+/// What comes after the first line.
 fn claim<S: TakesLinks, R: Read>(
     alloc: Global,
     input: &mut Input<R>,
@@ -80,7 +80,7 @@ fn claim<S: TakesLinks, R: Read>(
     ensures gives { (at : Position) (h : History) → IsAt R.remaining input.old at → S.ready taker.old h
         → GivesSuch R.remaining at (large_behind_header (level, at)) (IsClaimTaken (S.took taker.new h)) result input.new }
 {
-    match next_line::<Sizes<LargeOrderSizes>, R>(alloc, input, Scale::Large)? {
+    match next_line::<Sizes<LargeOrderSizes>, R>(alloc, input, TextFormat::Large)? {
         Sizes::Order(sizes) => {
             let runs = runs(alloc, input, sizes.runs)?;
             Ok(LargeHead::Order(RunsClaim {
@@ -147,10 +147,10 @@ pub(crate) fn certificate<S: TakesLinks, R: Read>(
     claim(alloc, input, level, taker)
 }
 
-/// Reads the certificate of version 3 whose text the reader gives, nothing behind it, or the first line with a fault. The
-/// first line has at most 8,191 bytes and a line feed, each other at most 127. Where the reader fails, that is the fault
-/// `Read` at the line that was wanted then, unless a line before it has another; so it is where the text goes on past 1 GiB.
-/// It is for those who want the certificate as a value; who only goes through its links once takes a `LargeReader`.
+/// Reads the certificate of version 3 whose text the reader gives, with nothing after it, or returns the first line with a
+/// fault. The first line has at most 8,191 bytes and a line feed, each other at most 127. Where the reader fails, the fault
+/// is `Read` at the line that was wanted then, unless a line before it has another. The same holds where the text goes on
+/// past 1 GiB. It is for callers that want the certificate as a value. To go through its links once, use a `LargeReader`.
 pub fn read_large<R: Read + Drop>(alloc: Global, reader: R) -> Result<LargeCertificate, CertFault>
     ensures { IfSome (R.remaining reader) (λ bytes. IsLargeReading bytes result) }
 {

@@ -7,7 +7,7 @@ use super::decimals::number_of;
 use super::forms::count_of;
 use super::input::Input;
 use super::words::{Entry, Said, WordLine, next_line};
-use crate::ranges::Scale;
+use crate::ranges::TextFormat;
 use crate::version_3::{V3_MAX_NUMBER, V3_MAX_RUNS, V3_MAX_SESSION, V3_MAX_SESSIONS};
 use crate::{CertFault, CertFaultKind, Run};
 use std::alloc::Global;
@@ -21,10 +21,10 @@ pub(crate) struct LargeOrderSizes {
     pub(crate) runs: u32,
 }
 
-/// What stands behind the links of a cycle.
+/// What comes after the links of a cycle.
 #[derive(Clone, Copy)]
-pub(crate) enum Tail {
-    /// A claim that it is a least one, with so many runs.
+pub(crate) enum FooterLine {
+    /// A claim that it is a least one, with this many runs.
     Least { runs: u32 },
     /// Nothing more.
     End,
@@ -43,7 +43,7 @@ fn run_of(session: &[u8], count: &[u8]) -> Said<Run>
 impl WordLine for Run {
     ghost form = { λ scale. run_line };
 
-    fn of_words(_alloc: Global, _scale: Scale, words: &[&[u8]]) -> Said<Run> {
+    fn of_words(_alloc: Global, _scale: TextFormat, words: &[&[u8]]) -> Said<Run> {
         match words {
             [session, count] => run_of(session, count),
             _ => Err(CertFaultKind::Count),
@@ -54,7 +54,11 @@ impl WordLine for Run {
 impl Entry for Run {
     ghost entry = { λ scale. words scale run_line };
 
-    fn next<R: Read>(alloc: Global, input: &mut Input<R>, scale: Scale) -> Result<Run, CertFault> {
+    fn next<R: Read>(
+        alloc: Global,
+        input: &mut Input<R>,
+        scale: TextFormat,
+    ) -> Result<Run, CertFault> {
         next_line(alloc, input, scale)
     }
 }
@@ -71,7 +75,7 @@ fn order_sizes(transactions: &[u8], sessions: &[u8], runs: &[u8]) -> Said<LargeO
     ensures { result ≡ large_order_sizes transactions.now sessions.now runs.now }
 {
     Ok(LargeOrderSizes {
-        transactions: count_of(Scale::Large, transactions)?,
+        transactions: count_of(TextFormat::Large, transactions)?,
         sessions: number_of(sessions, 0, V3_MAX_SESSIONS)?,
         runs: runs_of(runs)?,
     })
@@ -80,7 +84,7 @@ fn order_sizes(transactions: &[u8], sessions: &[u8], runs: &[u8]) -> Said<LargeO
 impl WordLine for LargeOrderSizes {
     ghost form = { λ scale. three_words large_order_sizes };
 
-    fn of_words(_alloc: Global, _scale: Scale, words: &[&[u8]]) -> Said<LargeOrderSizes> {
+    fn of_words(_alloc: Global, _scale: TextFormat, words: &[&[u8]]) -> Said<LargeOrderSizes> {
         match words {
             [transactions, sessions, runs] => order_sizes(transactions, sessions, runs),
             _ => Err(CertFaultKind::Count),
@@ -89,16 +93,16 @@ impl WordLine for LargeOrderSizes {
 }
 
 /// `R`
-fn least_of(runs: &[u8]) -> Said<Tail>
+fn least_of(runs: &[u8]) -> Said<FooterLine>
     ensures { result ≡ least_of runs.now }
 {
-    Ok(Tail::Least {
+    Ok(FooterLine::Least {
         runs: runs_of(runs)?,
     })
 }
 
-/// What stands behind `least`.
-fn least_fields(fields: &[&[u8]]) -> Said<Tail>
+/// What comes after `least`.
+fn least_fields(fields: &[&[u8]]) -> Said<FooterLine>
     ensures { result ≡ one_word least_of (map (λ word. word.now) fields.now) }
 {
     match fields {
@@ -107,20 +111,20 @@ fn least_fields(fields: &[&[u8]]) -> Said<Tail>
     }
 }
 
-/// What stands behind `end`.
-fn end_fields(fields: &[&[u8]]) -> Said<Tail>
-    ensures { result ≡ no_words Tail.End (map (λ word. word.now) fields.now) }
+/// What comes after `end`.
+fn end_fields(fields: &[&[u8]]) -> Said<FooterLine>
+    ensures { result ≡ no_words FooterLine.End (map (λ word. word.now) fields.now) }
 {
     match fields {
-        [] => Ok(Tail::End),
+        [] => Ok(FooterLine::End),
         _ => Err(CertFaultKind::Count),
     }
 }
 
-impl WordLine for Tail {
+impl WordLine for FooterLine {
     ghost form = { λ scale. tail_line };
 
-    fn of_words(_alloc: Global, _scale: Scale, words: &[&[u8]]) -> Said<Tail> {
+    fn of_words(_alloc: Global, _scale: TextFormat, words: &[&[u8]]) -> Said<FooterLine> {
         let Some((word, fields)) = words.split_first() else {
             return Err(CertFaultKind::Word);
         };

@@ -10,8 +10,8 @@ use crate::{CertFault, LargeCertificate, LargeHead, LinksClaim, LinksHead, Takes
 use std::alloc::Global;
 use std::io::Read;
 
-/// A text of version 3. Its reader gives at most one byte more than such a text may have: where its end is met, no byte of it
-/// is one too many.
+/// A text of version 3. Its reader gives at most one byte more than such a text may have, so a text whose end is met is not
+/// too long.
 #[derive(Drop)]
 pub struct LargeReader<R> {
     input: Input<R>,
@@ -24,7 +24,7 @@ impl<R: Read + Drop> LargeReader<R> {
     ghost use Rattle.tcc_reads.specs.History.{History};
     ghost use Rattle.tcc_cert.specs.{InputBytes.IsAt, Outcomes.IsLargeReading, Reading.Position, Taken.IsLargeTaken, Versions.IsLargeAt, private.Inputs.AsBefore};
 
-    /// The text that stands in the input, from its first line on.
+    /// The text that is in the input, from its first line on.
     pub(crate) fn over(input: Input<R>) -> LargeReader<R>
         requires { input.passed ≡ 0 }
         ensures same { (at : Position) → IsAt R.remaining input at → IsAt R.remaining result.input at }
@@ -54,7 +54,7 @@ impl<R: Read + Drop> LargeReader<R> {
         }
     }
 
-    /// The same of a text whose links are taken one by one, none of which is held.
+    /// The same for a text whose links are taken one by one; none of them is held.
     pub fn take<S: TakesLinks>(self, alloc: Global, taker: &mut S) -> Result<LargeHead, CertFault>
         ensures { (bytes : List ℕ) (h : History) → IsLargeAt R.remaining self bytes → S.ready taker.old h → IsLargeTaken bytes (S.took taker.new h) result }
     {

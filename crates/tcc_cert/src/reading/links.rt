@@ -3,21 +3,21 @@ ghost use Rattle.std.specs.Prelude.{◌≡◌, OnOk};
 ghost use Rattle.tcc_cert.specs.{private.Inputs.AsBefore, private.Slack.KeepsSlack, private.Inputs.Gives, InputBytes.IsAt};
 ghost use Rattle.tcc_cert.specs.Reading.{Position, link_at, repeated, with_walk};
 
-use super::forms::Head;
+use super::forms::HeaderLine;
 use super::input::Input;
 use super::words::{Entry, next_line};
-use crate::ranges::Scale;
+use crate::ranges::TextFormat;
 use crate::{CertFault, CertFaultKind};
 use std::alloc::Global;
 use std::io::Read;
 use tcc_graph::{Link, Step, Walk};
 use tcc_txn::ListOf;
 
-/// The next entries, so many.
+/// The next `count` entries.
 pub(crate) fn entries<E: Entry, R: Read>(
     alloc: Global,
     input: &mut Input<R>,
-    scale: Scale,
+    scale: TextFormat,
     count: u32,
 ) -> Result<ListOf<E>, CertFault>
     ensures works { OnOk result (AsBefore input.old input.new) }
@@ -58,17 +58,17 @@ pub fn with_walk(link: Link, walk: Walk) -> Link
     }
 }
 
-/// The next lines, one link.
+/// One link, from the next lines.
 pub(crate) fn link<R: Read>(
     alloc: Global,
     input: &mut Input<R>,
-    scale: Scale,
+    scale: TextFormat,
 ) -> Result<Link, CertFault>
     ensures works { OnOk result (AsBefore input.old input.new) }
     ensures slack { OnOk result (KeepsSlack R.remaining input.old.source input.new.source) }
     ensures gives { (at : Position) → IsAt R.remaining input.old at → Gives R.remaining at (link_at scale at) result input.new }
 {
-    let head = next_line::<Head, R>(alloc, input, scale)?;
+    let head = next_line::<HeaderLine, R>(alloc, input, scale)?;
     let walk = entries::<Step, R>(alloc, input, scale, head.steps)?;
     Ok(with_walk(head.link, walk))
 }
@@ -76,7 +76,11 @@ pub(crate) fn link<R: Read>(
 impl Entry for Link {
     ghost entry = { link_at };
 
-    fn next<R: Read>(alloc: Global, input: &mut Input<R>, scale: Scale) -> Result<Link, CertFault> {
+    fn next<R: Read>(
+        alloc: Global,
+        input: &mut Input<R>,
+        scale: TextFormat,
+    ) -> Result<Link, CertFault> {
         link(alloc, input, scale)
     }
 }

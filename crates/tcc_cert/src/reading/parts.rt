@@ -4,14 +4,14 @@ ghost use Rattle.tcc_cert.specs.declared.part.Part.TheVariants as part;
 ghost use Rattle.tcc_cert.specs.Parts.{Parts, parts_read};
 
 use super::input::Input;
-use super::stages::{Coming, Stage, step};
+use super::stages::{ExpectedPart, Stage, step};
 use crate::{CertFault, CertFaultKind, Part};
 use std::alloc::Global;
 use std::io::Read;
 
-/// The parts of the certificate whose text a reader gives: the claim first, then its links and the rows of its tables,
-/// one at a time. Nothing is kept of what was given. It is for those who go through a certificate once, as the checker
-/// does: to judge it, to count or to copy.
+/// The parts of the certificate whose text a reader gives: the claim first, then its links and the rows of its tables, one
+/// at a time. Nothing is kept of what was given. It is for callers that go through a certificate once, as the checker does:
+/// to judge it, to count or to copy.
 #[derive(Drop)]
 pub struct CertReader<R> {
     input: Input<R>,
@@ -30,18 +30,18 @@ impl<R: Read> CertReader<R> {
         CertReader::over(Input::new(reader))
     }
 
-    /// The parts of what stands in the input, from its first line on.
+    /// The parts of what is in the input, from its first line on.
     pub(crate) fn over(input: Input<R>) -> CertReader<R>
         ensures input { result.input ≡ input }
-        ensures stage { result.stage ≡ Stage.Going Coming.Whole }
+        ensures stage { result.stage ≡ Stage.Going ExpectedPart.Whole }
     {
         CertReader {
             input,
-            stage: Stage::Going(Coming::Whole),
+            stage: Stage::Going(ExpectedPart::Whole),
         }
     }
 
-    /// The next part, or the first fault; after `End` there is `End`, after a fault that fault.
+    /// The next part, or the first fault. After `End` there is `End`, and after a fault that fault.
     pub fn next(&mut self, alloc: Global) -> Result<Part, CertFault>
         ensures parts { (ahead : Parts) → IsAhead R.remaining self.old ahead → TakesPart R.remaining (line_wanted self.old) ahead result self.new }
 
@@ -58,7 +58,7 @@ impl<R: Read> CertReader<R> {
         ensures ends { IfOk result (λ given. has_ended self.new ≡ is_end given) }
         ensures stays_ended { has_ended self.old ≡ true → result ≡ Ok part.End }
 
-        // A claim comes first and never again, and behind it fewer and fewer links and rows.
+        // A claim comes first and never again. After it fewer and fewer links and rows are left.
         ensures begins { IfOk result (λ given. is_claim given ≡ is_new self.old) }
         ensures begun { is_new self.new ≡ false }
         ensures left { IfOk result (λ given. (is_new self.old ≡ true) ⊎ ((given ≡ part.End) ⊎ (rows_left self.new < rows_left self.old))) }

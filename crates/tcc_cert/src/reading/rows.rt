@@ -5,7 +5,7 @@ ghost use Rattle.tcc_cert.specs.Reading.{Position, numbers_line, numbers_of, par
 
 use super::decimals::number_of;
 use super::input::{Input, at_line};
-use crate::ranges::Scale;
+use crate::ranges::TextFormat;
 use crate::{CertFault, CertFaultKind, Numbers, Version};
 use std::alloc::{AllocError, Global};
 use std::io::Read;
@@ -20,7 +20,7 @@ fn word_count(line: &[u8]) -> usize
     line.iter().filter(|byte| **byte == b' ').count() + 1
 }
 
-/// The numbers that the words of a line write, of which there are so many.
+/// The numbers that the words of a line write. Room is asked for `count` of them.
 fn numbers_of(
     alloc: Global,
     line: &[u8],
@@ -48,7 +48,8 @@ fn digit(byte: u8) -> Option<u32>
     }
 }
 
-/// The numbers of a line that has so many up to `most`, each of one digit, as most rows have; none where it is another line.
+/// The numbers of a line of `count` numbers up to `most`, each of one digit, as most rows have; none where it is another
+/// line.
 fn digits_of(
     alloc: Global,
     line: &[u8],
@@ -77,7 +78,7 @@ fn digits_of(
     Ok(Some(numbers))
 }
 
-/// A line of so many numbers up to `most`.
+/// A line of `count` numbers up to `most`.
 fn numbers_line(
     alloc: Global,
     line: &[u8],
@@ -98,7 +99,7 @@ fn numbers_line(
     Ok(Numbers::new(numbers_of(alloc, line, count, most)?))
 }
 
-/// The next line, of so many numbers.
+/// The next line, of `count` numbers.
 pub(crate) fn row<R: Read>(
     alloc: Global,
     input: &mut Input<R>,
@@ -107,8 +108,8 @@ pub(crate) fn row<R: Read>(
     most: u32,
 ) -> Result<Numbers, CertFault>
     ensures works { OnOk result (AsBefore input.old input.new) }
-    ensures gives { (at : Position) → IsAt R.remaining input.old at → Gives R.remaining at (words (Scale.Small version) (numbers_line count most) at) result input.new }
+    ensures gives { (at : Position) → IsAt R.remaining input.old at → Gives R.remaining at (words (TextFormat.Small version) (numbers_line count most) at) result input.new }
 {
-    let line = input.next_of(Scale::Small(version))?;
+    let line = input.next_of(TextFormat::Small(version))?;
     at_line(line, numbers_line(alloc, input.line(), count, most))
 }

@@ -38,7 +38,7 @@ impl TableShape {
         }
     }
 
-    /// How many numbers the next row has where so many rows are left.
+    /// How many numbers the next row has where `left` rows are left.
     pub(crate) fn columns(self, version: Version, left: u32) -> u32
         ensures { (from : ℕ) → from + left ≡ height self → result ≡ columns_in version self from }
     {
@@ -50,7 +50,7 @@ impl TableShape {
         }
     }
 
-    /// The greatest number that stands in it.
+    /// The greatest number that may be in it.
     pub(crate) fn most(self, version: Version) -> u32
         ensures { result ≡ most_in version self }
     {

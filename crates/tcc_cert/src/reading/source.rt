@@ -1,4 +1,4 @@
-//! A reader that keeps in mind that it failed, and that is asked no more once it has given as many bytes as it may.
+//! A reader that records that it failed, and that isn't asked again once it has given as many bytes as it may.
 ghost use Rattle.std.specs.Prelude.{◌≡◌, ◌+◌, IfOk, IsErr, IsTrue, OnErr, OnOk, false};
 ghost use Rattle.std.specs.Io.{ReadsAtMost};
 ghost use Rattle.std.specs.Io.KnownBytes.{ReadConsumes};
@@ -6,8 +6,8 @@ ghost use Rattle.tcc_cert.specs.private.Slack.{KeepsSlack};
 
 use std::io::{self, ErrorKind, Read};
 
-/// A reader, whether a read of it has failed, and how many bytes it may still give: to be asked for more is a failure too.
-/// Nothing else says so than a read here: what is answered of a failed reader rests on this.
+/// A reader, whether a read of it has failed, and how many bytes it may still give. To be asked for more is a failure too.
+/// Only a read here records a failure, and what is returned for a failed reader depends on that.
 #[derive(Drop)]
 pub(crate) struct Source<R> {
     reader: R,
@@ -27,7 +27,7 @@ impl<R: Read> Source<R> {
         }
     }
 
-    /// From now on it gives at most so many bytes.
+    /// From now on it gives at most `most` bytes.
     pub(crate) fn limit(&mut self, most: usize)
         ensures reader { self.new.reader ≡ self.old.reader }
         ensures failed { self.new.failed ≡ self.old.failed }

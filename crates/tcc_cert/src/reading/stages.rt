@@ -1,4 +1,4 @@
-//! The parts of a certificate's text, each with what stands behind it.
+//! The parts of a certificate's text, each with what comes after it.
 ghost use Rattle.std.specs.Prelude.{◌≡◌, ◌<◌, ◌+◌, ℕ, IfOk, OnOk};
 ghost use Rattle.tcc_cert.specs.{private.Inputs.AsBefore, InputBytes.IsAt, Reading.Position, Ahead.IsBehind};
 ghost use Rattle.tcc_cert.specs.Parts.{Parts, end_parts, link_rows, order_parts, order_rest, parts_behind, whole_parts};
@@ -12,13 +12,13 @@ use super::rows::row;
 use super::shape::TableShape;
 use super::words::next_line;
 use super::{header, mark};
-use crate::ranges::{Scale, ranges_of};
+use crate::ranges::{TextFormat, ranges_of};
 use crate::{CertFault, CycleHead, OrderHead, Part, Version};
 use std::alloc::Global;
 use std::io::Read;
 use tcc_graph::Level;
 
-/// So many links of a cycle over so many transactions.
+/// The links of a cycle that are left: how many, and over how many transactions.
 #[derive(Clone, Copy)]
 pub(crate) struct LinksLeft {
     version: Version,
@@ -26,7 +26,7 @@ pub(crate) struct LinksLeft {
     many: u32,
 }
 
-/// So many rows of a table.
+/// The rows of a table that are left: how many, and of which table.
 #[derive(Clone, Copy)]
 pub(crate) struct RowsLeft {
     version: Version,
@@ -34,16 +34,16 @@ pub(crate) struct RowsLeft {
     many: u32,
 }
 
-/// What comes behind the parts that were given.
+/// What comes after the parts that were given.
 #[derive(Clone, Copy)]
-pub(crate) enum Coming {
+pub(crate) enum ExpectedPart {
     /// The whole text.
     Whole,
-    /// Links of a cycle, and what stands behind them.
+    /// Links of a cycle, and what comes after them.
     Links(LinksLeft),
-    /// The line before the rows of a table, these, and what stands behind them.
+    /// The line before the rows of a table, these, and what comes after them.
     Mark { version: Version, table: TableShape },
-    /// Rows of a table, and what stands behind them.
+    /// Rows of a table, and what comes after them.
     Rows(RowsLeft),
 }
 
@@ -51,23 +51,23 @@ pub(crate) enum Coming {
 #[derive(Clone, Copy)]
 pub(crate) enum Stage {
     /// Something is still to be read.
-    Going(Coming),
+    Going(ExpectedPart),
     /// There are no more parts.
     Ended,
     /// A fault was met.
     Stopped(CertFault),
 }
 
-/// A part, and what stands behind it, or the first fault.
+/// A part, and what comes after it, or the first fault.
 pub(crate) type NextPart = Result<(Part, Stage), CertFault>;
 
-/// The last line, and nothing behind it.
+/// The last line, and nothing after it.
 fn end<R: Read>(alloc: Global, input: &mut Input<R>, version: Version) -> NextPart
     ensures works { OnOk result (AsBefore input.old input.new) }
     ensures step { (at : Position) → IsAt R.remaining input.old at → TakesStep R.remaining at.line (end_parts version at) result input.new }
     ensures row { (left : ℕ) → IfOk result (λ given. IsRowStep left given) }
 {
-    mark(alloc, input, Scale::Small(version), b"end")?;
+    mark(alloc, input, TextFormat::Small(version), b"end")?;
     input.end()?;
     Ok((Part::End, Stage::Ended))
 }
@@ -87,14 +87,14 @@ fn table_row<R: Read>(alloc: Global, input: &mut Input<R>, left: RowsLeft) -> Ne
     } = left;
     let columns = table.columns(version, many) as usize;
     let numbers = row(alloc, input, version, columns, table.most(version))?;
-    let coming = Coming::Rows(RowsLeft {
+    let coming = ExpectedPart::Rows(RowsLeft {
         many: many - 1,
         ..left
     });
     Ok((table.part(numbers), Stage::Going(coming)))
 }
 
-/// What comes behind the last row of a table: behind those of `near` the line `far`, and its first row.
+/// What comes after the last row of a table: for `near` the line `far`, and its first row.
 fn behind_table<R: Read>(alloc: Global, input: &mut Input<R>, last: RowsLeft) -> NextPart
     ensures works { OnOk result (AsBefore input.old input.new) }
     ensures step { (at : Position) → IsAt R.remaining input.old at → TakesStep R.remaining at.line (behind_table last.version last.table at) result input.new }
@@ -104,7 +104,7 @@ fn behind_table<R: Read>(alloc: Global, input: &mut Input<R>, last: RowsLeft) ->
     match last.table {
         TableShape::Clocks { .. } | TableShape::Far { .. } => end(alloc, input, version),
         TableShape::Near { transactions } => {
-            mark(alloc, input, Scale::Small(version), b"far")?;
+            mark(alloc, input, TextFormat::Small(version), b"far")?;
             if transactions == 0 {
                 return end(alloc, input, version);
             }
@@ -118,7 +118,7 @@ fn behind_table<R: Read>(alloc: Global, input: &mut Input<R>, last: RowsLeft) ->
     }
 }
 
-/// The next row of a table, or what comes behind it where none is left.
+/// The next row of a table, or what comes after it where none is left.
 fn rows<R: Read>(alloc: Global, input: &mut Input<R>, left: RowsLeft) -> NextPart
     ensures works { OnOk result (AsBefore input.old input.new) }
     ensures step { (at : Position) (from : ℕ) → from + left.many ≡ height left.table → IsAt R.remaining input.old at
@@ -143,7 +143,7 @@ fn marked<R: Read>(
     ensures step { (at : Position) → IsAt R.remaining input.old at → TakesStep R.remaining at.line (table_parts version table at) result input.new }
     ensures row { IfOk result (λ given. IsRowStep (rows_from table (height table)) given) }
 {
-    mark(alloc, input, Scale::Small(version), table.word())?;
+    mark(alloc, input, TextFormat::Small(version), table.word())?;
     let left = RowsLeft {
         version,
         table,
@@ -152,8 +152,8 @@ fn marked<R: Read>(
     rows(alloc, input, left)
 }
 
-/// What stands behind the order of a claim.
-fn behind_order(version: Version, level: Level, transactions: u32, sessions: u32) -> Coming
+/// What comes after the order of a claim.
+fn behind_order(version: Version, level: Level, transactions: u32, sessions: u32) -> ExpectedPart
     ensures behind { (at : Position) → IsBehind result at (order_rest version level transactions sessions at) }
     ensures begun { IsBegun (Stage.Going result) }
 {
@@ -162,8 +162,8 @@ fn behind_order(version: Version, level: Level, transactions: u32, sessions: u32
         sessions,
     };
     match level {
-        Level::Causal => Coming::Mark { version, table },
-        Level::Atomic => Coming::Rows(RowsLeft {
+        Level::Causal => ExpectedPart::Mark { version, table },
+        Level::Atomic => ExpectedPart::Rows(RowsLeft {
             version,
             table,
             many: 0,
@@ -209,15 +209,15 @@ fn next_link<R: Read>(alloc: Global, input: &mut Input<R>, left: LinksLeft) -> N
         → TakesStep R.remaining at.line (link_rows left.version left.transactions from left.many at) result input.new }
     ensures row { IfOk result (λ given. IsRowStep (links_from left.transactions left.many) given) }
 {
-    let one = link(alloc, input, Scale::Small(left.version))?;
-    let coming = Coming::Links(LinksLeft {
+    let one = link(alloc, input, TextFormat::Small(left.version))?;
+    let coming = ExpectedPart::Links(LinksLeft {
         many: left.many - 1,
         ..left
     });
     Ok((Part::Link(one), Stage::Going(coming)))
 }
 
-/// The next link of a cycle, or what comes behind the last.
+/// The next link of a cycle, or what comes after the last.
 fn links<R: Read>(alloc: Global, input: &mut Input<R>, left: LinksLeft) -> NextPart
     ensures works { OnOk result (AsBefore input.old input.new) }
     ensures step { (at : Position) (from : ℕ) → IsAt R.remaining input.old at
@@ -233,13 +233,13 @@ fn links<R: Read>(alloc: Global, input: &mut Input<R>, left: LinksLeft) -> NextP
     }
 }
 
-/// What stands behind the first line, up to the links of a cycle or the clocks of an order.
+/// What comes after the first line, up to the links of a cycle or the clocks of an order.
 fn claim<R: Read>(alloc: Global, input: &mut Input<R>, version: Version, level: Level) -> NextPart
     ensures works { OnOk result (AsBefore input.old input.new) }
     ensures step { (at : Position) → IsAt R.remaining input.old at → TakesStep R.remaining at.line (parts_behind ((version, level), at)) result input.new }
     ensures claim { IfOk result IsClaimStep }
 {
-    match next_line::<Sizes<OrderSizes>, R>(alloc, input, Scale::Small(version))? {
+    match next_line::<Sizes<OrderSizes>, R>(alloc, input, TextFormat::Small(version))? {
         Sizes::Order(sizes) => order(alloc, input, version, level, sizes),
         Sizes::Cycle(sizes) => {
             let head = CycleHead {
@@ -254,7 +254,7 @@ fn claim<R: Read>(alloc: Global, input: &mut Input<R>, version: Version, level: 
                 transactions: sizes.transactions,
                 many: sizes.links,
             };
-            Ok((Part::Cycle(head), Stage::Going(Coming::Links(left))))
+            Ok((Part::Cycle(head), Stage::Going(ExpectedPart::Links(left))))
         }
     }
 }
@@ -269,17 +269,17 @@ fn whole<R: Read>(alloc: Global, input: &mut Input<R>) -> NextPart
     claim(alloc, input, version, level)
 }
 
-/// The next part, and what stands behind it.
-pub(crate) fn step<R: Read>(alloc: Global, input: &mut Input<R>, coming: Coming) -> NextPart
+/// The next part, and what comes after it.
+pub(crate) fn step<R: Read>(alloc: Global, input: &mut Input<R>, coming: ExpectedPart) -> NextPart
     ensures works { OnOk result (AsBefore input.old input.new) }
     ensures step { (at : Position) (ahead : Parts) → IsAt R.remaining input.old at → IsBehind coming at ahead
         → TakesStep R.remaining at.line ahead result input.new }
     ensures follows { IfOk result (λ given. IsStepAt coming given) }
 {
     match coming {
-        Coming::Whole => whole(alloc, input),
-        Coming::Links(left) => links(alloc, input, left),
-        Coming::Mark { version, table } => marked(alloc, input, version, table),
-        Coming::Rows(left) => rows(alloc, input, left),
+        ExpectedPart::Whole => whole(alloc, input),
+        ExpectedPart::Links(left) => links(alloc, input, left),
+        ExpectedPart::Mark { version, table } => marked(alloc, input, version, table),
+        ExpectedPart::Rows(left) => rows(alloc, input, left),
     }
 }

@@ -1,22 +1,22 @@
-//! The links of a claim, given line by line to who takes them, so that none of them is held here.
+//! The links of a claim, given line by line to a taker, so that none of them is held here.
 ghost use Rattle.std.specs.Prelude.{◌≡◌, ◌++◌, ◌∷◌, [], List, OnOk};
 ghost use Rattle.tcc_reads.specs.History.{History};
 ghost use Rattle.tcc_graph.specs.declared.link.Link.{Link};
 ghost use Rattle.tcc_cert.specs.{private.Inputs.AsBefore, private.Slack.KeepsSlack, private.Inputs.GivesSuch, InputBytes.IsAt};
 ghost use Rattle.tcc_cert.specs.Reading.{Position, head_line, link_at, repeated, step_line, words};
 ghost use Rattle.tcc_cert.specs.declared.large.LinksSizes.{LinksSizes};
-ghost use Rattle.tcc_cert.specs.declared.ranges.Scale.TheVariants.{Large};
+ghost use Rattle.tcc_cert.specs.declared.ranges.TextFormat.TheVariants.{Large};
 
-use super::forms::Head;
+use super::forms::HeaderLine;
 use super::input::Input;
 use super::words::next_line;
-use crate::ranges::Scale;
+use crate::ranges::TextFormat;
 use crate::{CertFault, CertFaultKind, TakesLinks};
 use std::alloc::Global;
 use std::io::Read;
 use tcc_graph::Step;
 
-/// The next steps of a walk, so many.
+/// The next `count` steps of a walk.
 fn give_walk<S: TakesLinks, R: Read>(
     alloc: Global,
     input: &mut Input<R>,
@@ -29,7 +29,7 @@ fn give_walk<S: TakesLinks, R: Read>(
         → GivesSuch R.remaining at (repeated (words Large (step_line Large)) count at) (λ walk _. S.takes taker.new h sizes links head walk) result input.new }
 {
     'steps: for _ in 0..count {
-        let one = next_line::<Step, R>(alloc, input, Scale::Large)?;
+        let one = next_line::<Step, R>(alloc, input, TextFormat::Large)?;
         match taker.step(one) {
             Ok(()) => {}
             Err(_) => return Err(input.fault(CertFaultKind::NoMemory)),
@@ -50,7 +50,7 @@ fn begin_link<S: TakesLinks, R: Read>(
         → GivesSuch R.remaining at (words Large (head_line Large) at)
         (λ head steps. (steps ≡ head.steps) × S.takes taker.new h sizes links head.link []) result input.new }
 {
-    let head = next_line::<Head, R>(alloc, input, Scale::Large)?;
+    let head = next_line::<HeaderLine, R>(alloc, input, TextFormat::Large)?;
     let steps = head.steps;
     match taker.begin(head.link) {
         Ok(()) => Ok(steps),
@@ -58,7 +58,7 @@ fn begin_link<S: TakesLinks, R: Read>(
     }
 }
 
-/// The next lines, one link.
+/// One link, from the next lines.
 fn give_link<S: TakesLinks, R: Read>(
     alloc: Global,
     input: &mut Input<R>,
@@ -77,7 +77,7 @@ fn give_link<S: TakesLinks, R: Read>(
     }
 }
 
-/// The next links, so many.
+/// The next `count` links.
 pub(crate) fn give_links<S: TakesLinks, R: Read>(
     alloc: Global,
     input: &mut Input<R>,

@@ -19,8 +19,8 @@ pub enum VersionReader<R> {
     Large(LargeReader<R>),
 }
 
-/// Looks at the first line of a text, and gives the reader of its version; or the fault of that line where there is none,
-/// since it is too long or cut, or the reader failed. A line of no version is for the reader to name.
+/// Looks at the first line of a text, and returns the reader of its version. Where there is no first line, since it is too
+/// long or cut or the reader failed, it returns that fault. The reader of parts reports a line of no version.
 pub fn reader_of<R: Read + Drop>(reader: R) -> Result<VersionReader<R>, CertFault>
     ensures version { IfSome (R.remaining reader) (λ bytes. IsReaderOf R.remaining bytes result) }
     ensures untouched { IfOk result IsUntouched }

@@ -7,7 +7,7 @@ use super::source::Source;
 use crate::version_2::V2_MAX_LINE_BYTES;
 use std::io::{self, Read};
 
-/// A line of any version and its line feed are no longer.
+/// The most bytes of a line of any version, with its line feed.
 const WINDOW_BYTES: usize = V2_MAX_LINE_BYTES + 1;
 
 /// The bytes from `first` to `end`.
@@ -40,7 +40,7 @@ impl Window {
         &self.bytes[self.first..self.end]
     }
 
-    /// Lets the first of them go.
+    /// Drops the first `count` of them.
     pub(crate) fn pass(&mut self, count: usize)
         requires { count ≤ length (window_bytes self.old) }
         ensures { window_bytes self.new ≡ drop count (window_bytes self.old) }
@@ -48,7 +48,7 @@ impl Window {
         self.first += count;
     }
 
-    /// Moves them to the front, so that all room is behind them.
+    /// Moves them to the front, so that all room is after them.
     fn gather(&mut self)
         ensures bytes { window_bytes self.new ≡ window_bytes self.old }
         ensures front { self.new.end ≡ length (window_bytes self.old) }
@@ -61,7 +61,7 @@ impl Window {
         }
     }
 
-    /// Takes what one read gives, and says how many bytes that were.
+    /// Takes what one read gives, and returns how many bytes that were.
     pub(crate) fn fill<R: Read>(&mut self, source: &mut Source<R>) -> io::Result<usize>
         requires { length (window_bytes self.old) < WINDOW_BYTES }
         ensures more { IfOk result (λ count. (more : List ℕ) × (length more ≡ count) × (window_bytes self.new ≡ window_bytes self.old ++ more)

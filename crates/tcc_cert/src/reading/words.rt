@@ -4,7 +4,7 @@ ghost use Rattle.tcc_cert.specs.{private.Inputs.AsBefore, private.Slack.KeepsSla
 ghost use Rattle.tcc_cert.specs.Reading.{Position, words, words_of};
 
 use super::input::{Input, at_line};
-use crate::ranges::Scale;
+use crate::ranges::TextFormat;
 use crate::{CertFault, CertFaultKind};
 use std::alloc::{AllocError, Global};
 use std::io::Read;
@@ -14,31 +14,35 @@ pub(crate) type Said<T> = Result<T, CertFaultKind>;
 
 /// What a line of words says.
 pub(crate) trait WordLine: Drop {
-    ghost use Rattle.tcc_cert.specs.{declared.fault.CertFaultKind.CertFaultKind, declared.ranges.Scale.Scale, Texts.Words};
+    ghost use Rattle.tcc_cert.specs.{declared.fault.CertFaultKind.CertFaultKind, declared.ranges.TextFormat.TextFormat, Texts.Words};
 
-    ghost form: { Scale → Words → Result Self CertFaultKind };
+    ghost form: { TextFormat → Words → Result Self CertFaultKind };
 
     /// What these words say.
-    fn of_words(alloc: Global, scale: Scale, words: &[&[u8]]) -> Said<Self>
+    fn of_words(alloc: Global, scale: TextFormat, words: &[&[u8]]) -> Said<Self>
         ensures { result ≡ form scale (map (λ word. word.now) words.now) };
 }
 
 /// What one line says, or some that belong together.
 pub(crate) trait Entry: Drop {
     ghost use Rattle.std.specs.Prelude.{OnOk};
-    ghost use Rattle.tcc_cert.specs.{declared.ranges.Scale.Scale, InputBytes.IsAt, Reading.Position, Reading.Reads, private.Inputs.AsBefore, private.Slack.KeepsSlack, private.Inputs.Gives, private.Onward.IsOnward};
+    ghost use Rattle.tcc_cert.specs.{declared.ranges.TextFormat.TextFormat, InputBytes.IsAt, Reading.Position, Reading.Reads, private.Inputs.AsBefore, private.Slack.KeepsSlack, private.Inputs.Gives, private.Onward.IsOnward};
 
-    ghost entry: { Scale → Position → Reads Self };
+    ghost entry: { TextFormat → Position → Reads Self };
 
     /// The next one.
-    fn next<R: Read>(alloc: Global, input: &mut Input<R>, scale: Scale) -> Result<Self, CertFault>
+    fn next<R: Read>(
+        alloc: Global,
+        input: &mut Input<R>,
+        scale: TextFormat,
+    ) -> Result<Self, CertFault>
         ensures works { OnOk result (AsBefore input.old input.new) }
         ensures slack { OnOk result (KeepsSlack R.remaining input.old.source input.new.source) }
         ensures gives { (at : Position) → IsAt R.remaining input.old at → Gives R.remaining at (entry scale at) result input.new }
         ensures onward { (at : Position) → IsOnward at (entry scale at) };
 }
 
-/// What stands between the spaces of a line.
+/// What is between the spaces of a line.
 pub(crate) fn words_of(alloc: Global, line: &[u8]) -> Result<Vec<&[u8]>, AllocError>
     ensures { IfOk result (λ words. map (λ word. word.now) words.items ≡ words_of line.now) }
 {
@@ -49,7 +53,7 @@ pub(crate) fn words_of(alloc: Global, line: &[u8]) -> Result<Vec<&[u8]>, AllocEr
 }
 
 /// What a line says.
-fn line_of<L: WordLine>(alloc: Global, scale: Scale, line: &[u8]) -> Said<L>
+fn line_of<L: WordLine>(alloc: Global, scale: TextFormat, line: &[u8]) -> Said<L>
     ensures { Shows result (L.form scale (words_of line.now)) }
 {
     let words = words_of(alloc, line)?;
@@ -60,7 +64,7 @@ fn line_of<L: WordLine>(alloc: Global, scale: Scale, line: &[u8]) -> Said<L>
 pub(crate) fn next_line<L: WordLine, R: Read>(
     alloc: Global,
     input: &mut Input<R>,
-    scale: Scale,
+    scale: TextFormat,
 ) -> Result<L, CertFault>
     ensures works { OnOk result (AsBefore input.old input.new) }
     ensures slack { OnOk result (KeepsSlack R.remaining input.old.source input.new.source) }

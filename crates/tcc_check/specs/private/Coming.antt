@@ -30,13 +30,13 @@ abbrev pub Takes : {R : Type 0} → (R → Option (List ℕ)) → Parts → Cert
 Takes remaining ahead reader (Ok given) = (rest : Parts) × IsFirst given ahead rest × IsAhead remaining reader rest
 Takes remaining ahead reader (Err fault) = FailsAs ahead fault
 
--- some parts are still to come, of which this is said; or how they end
+-- some parts are still to come, of which this holds; or how they end
 abbrev pub Leaves : {R : Type 0} {X : Type 0} → (R → Option (List ℕ)) → Parts → CertReader R → (X → Parts → Type 0) → Result X StreamFault → Type 0
 Leaves remaining ahead reader said (Ok x) =
     (rest : Parts) × (rest.line ≡ ahead.line) × (rest.fault ≡ ahead.fault) × IsAhead remaining reader rest × said x rest
 Leaves remaining ahead reader said (Err fault) = FailsAs ahead fault
 
--- the parts end without a fault, and this is said; or how they end
+-- the parts end without a fault, and this holds; or how they end
 abbrev pub Finishes : {X : Type 0} → Parts → (X → Type 0) → Result X StreamFault → Type 0
 Finishes ahead said (Ok x) = (ahead.fault ≡ None) × said x
 Finishes ahead said (Err fault) = FailsAs ahead fault
@@ -45,7 +45,7 @@ Finishes ahead said (Err fault) = FailsAs ahead fault
 abbrev pub IsNearRight : ℕ → ℕ → List (List ℕ) → Type 0
 IsNearRight n least near = HasSize n n near × IsCapped least near
 
--- so has a table of costs
+-- the same for a table of costs
 abbrev pub IsFarRight : Version → ℕ → ℕ → List (List ℕ) → Type 0
 IsFarRight version n least far = HasFarSize version n far × IsCapped least far
 
@@ -54,41 +54,41 @@ abbrev pub IsFoundBefore : ℕ → (ℕ × ℕ → Type 0) → Option (ℕ × �
 IsFoundBefore n broken None = (a b : ℕ) → a < n → broken (a, b) → ⊥
 IsFoundBefore n broken (Some at) = (at.0 < n) × IsFirstAt broken at
 
--- so for each rule on lengths
+-- the same for each rule on lengths
 pub record IsNearFoundTo (h : History) (level : Level) (near : List (List ℕ)) (n : ℕ) (faults : NearFaults) : Type 0 where
   pub pairs : IsFoundBefore n (BreaksNearPair h near) faults.pair
   pub steps : IsFoundBefore n (BreaksNearStep h level near) faults.step
 
--- and on costs
+-- and for those on costs
 pub record AreFoundBefore (h : History) (version : Version) (least : ℕ) (near : List (List ℕ)) (far : List (List ℕ)) (n : ℕ) (faults : FarFaults) : Type 0 where
   pub links : IsFoundBefore n (BreaksFarLink h version near far) faults.link
   pub steps : IsFoundBefore n (BreaksFarStep h version near far) faults.step
   pub returns : IsFoundBefore n (BreaksReturn h version least far) faults.back
 
--- what was found, or else what is in one row more
+-- what was found, or else what is in one more row
 abbrev pub first_of : Option (ℕ × ℕ) → ℕ → Option ℕ → Option (ℕ × ℕ)
 first_of (Some at) start end = Some at
 first_of None start None = None
 first_of None start (Some end) = Some (start, end)
 
--- the first of two verdicts that is no acceptance
+-- the first of two verdicts that is not an acceptance
 abbrev pub first_rejected : {R : Type 0} → Verdict R → Verdict R → Verdict R
 first_rejected verdict.Accepted later = later
 first_rejected (verdict.Rejected rule at) later = verdict.Rejected rule at
 
--- the verdict on tables, where they have the right sizes and nothing comes behind them
+-- the verdict on tables, where they have the right sizes and nothing comes after them
 abbrev pub sized : Option (Verdict Rule) → Bool → Verdict Rule
 sized (Some said) true = said
 sized (Some said) false = verdict.Rejected Sizes (0, 0)
 sized None at_once = verdict.Rejected Sizes (0, 0)
 
--- the first broken rule of those on lengths, and where
+-- the first broken rule on lengths, and where
 abbrev pub near_verdict : Option (ℕ × ℕ) → Option (ℕ × ℕ) → Verdict Rule
 near_verdict (Some at) step = verdict.Rejected NearPairs at
 near_verdict None (Some at) = verdict.Rejected NearSteps at
 near_verdict None None = verdict.Accepted
 
--- the first broken rule of those on costs, and where
+-- the first broken rule on costs, and where
 abbrev pub verdict_by : Option (ℕ × ℕ) → Option (ℕ × ℕ) → Option (ℕ × ℕ) → Verdict Rule
 verdict_by (Some at) step back = verdict.Rejected FarLinks at
 verdict_by None (Some at) back = verdict.Rejected FarSteps at

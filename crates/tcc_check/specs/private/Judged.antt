@@ -45,7 +45,7 @@ far_rules h version least near far =
 abbrev pub claim_rules : History → CycleClaim → List (Asked Rule)
 claim_rules h k = of_links Links (judged_at h k.level) k.least k.links ∷ bounds_rules h k
 
--- what was found in the first rows of a table of lengths, and the links that they tell of
+-- what was found in the first rows of a table of lengths, and the links that they give
 pub record AreNearRowsTo (h : History) (level : Level) (least : ℕ) (near : List (List ℕ)) (n : ℕ) (rows : NearRows) : Type 0 where
   pub found : IsNearFoundTo h level near n rows.faults
   pub links : AreEndsTo n (λ u. WeighsFrom h (row_of near u) u) (count h) least rows.links.items
@@ -54,11 +54,11 @@ pub record AreNearRowsTo (h : History) (level : Level) (least : ℕ) (near : Lis
 abbrev pub judged : Pairs → NearRows → NearJudged
 judged pairs rows = record { verdict = near_verdict rows.faults.pair rows.faults.step; begins = pairs.begins; links = rows.links }
 
--- the links that a table of lengths tells of
+-- the links that a table of lengths gives
 abbrev pub AreLinksOf : History → ℕ → List (List ℕ) → NearJudged → Type 0
 AreLinksOf h least near judged = AreAllEnds (λ u. WeighsFrom h (row_of near u) u) (count h) least judged.links.items
 
--- what the rules on lengths say, and those links
+-- the verdict of the rules on lengths, and those links
 pub record IsNearJudged (h : History) (level : Level) (least : ℕ) (near : List (List ℕ)) (judged : NearJudged) : Type 0 where
   pub answer : IsVerdictOf (near_rules h level near) judged.verdict
   pub links : AreLinksOf h least near judged
@@ -69,24 +69,24 @@ pub record IsOrderly (h : History) (judged : NearJudged) : Type 0 where
   pub long : length judged.links.items ≡ count h
   pub links : AreOrderly (count h) judged.links.items
 
--- the numbers of the links are below that of the transactions, the rule on links says so, and these parts come behind them
+-- the numbers of the links are below the count of transactions, this is the verdict of the rule on links, and these parts come after them
 pub record AreLinksJudged (h : History) (head : CycleHead) (links : List Link) (rest : Parts) (tables : List Part) (verdict : Verdict Rule) : Type 0 where
   pub below : All (IsLinkBelow (count h)) links
   pub answer : (near far : List (List ℕ)) → IsVerdictOf (links_rules h (with_tables head links near far)) verdict
   pub behind : rest.parts ≡ tables
 
--- where no part is left behind the rows of costs, they are the whole table, and the rules on them say so
+-- where no part is left after the rows of costs, they are the whole table, and this is the verdict of the rules on them
 pub record IsFarJudged (h : History) (version : Version) (least : ℕ) (near : List (List ℕ)) (far : List (List ℕ)) (rest : Parts)
     (verdict : Verdict Rule) : Type 0 where
   pub right : rest.parts ≡ [] → IsFarRight version (count h) least far × IsVerdictOf (far_rules h version least near far) verdict
   pub more : IsFarRight version (count h) least far → rest.parts ≡ []
 
--- so all rules behind that on sizes say
+-- the same for all rules after the one on sizes
 pub record IsClaimJudged (h : History) (k : CycleClaim) (rest : Parts) (verdict : Verdict Rule) : Type 0 where
   pub right : rest.parts ≡ [] → HasRightSizes h k × IsVerdictOf (claim_rules h k) verdict
   pub more : HasRightSizes h k → rest.parts ≡ []
 
--- so all rules say, of a claim that a cycle is least, with the links and the tables that come
+-- the verdict of all rules for a claim that a cycle is least, with the links and the tables that come
 pub record IsCycleJudged (h : History) (head : CycleHead) (ahead : Parts) (judgement : Judgement) : Type 0 where
   pub same : judgement.claim ≡ claim.Cycle head.least
   pub answer : (links : List Link) (near far : List (List ℕ)) → length links ≡ head.links → length near ≡ head.count

@@ -18,11 +18,11 @@ within_at session number (Some stand) = nat_lt stand.0 session || ((stand.0 == s
 abbrev pub is_within : History → ℕ → ℕ → ℕ → Bool
 is_within h session number n = within_at session number (at h n)
 
--- in session order each stands before the next
+-- in session order each comes before the next
 abbrev pub AreSessionsKept : History → List ℕ → Type 0
 AreSessionsKept h positions = (b : ℕ) (c : ℕ) → IsSessionPair h b c → slice_index positions b < slice_index positions c
 
--- so many of these, the first ones, are within, and no others
+-- the first n of these are within, and no others
 pub record IsCountWithin (h : History) (numbers : List ℕ) (session : ℕ) (number : ℕ) (n : ℕ) : Type 0 where
   pub upto : n ≤ length numbers
   pub point : IsPartitionPoint (λ b. is_within h session number b ≡ true) (λ b. is_within h session number b ≡ false) numbers n
@@ -33,7 +33,7 @@ IsLastWithin h numbers session number None = (b : ℕ) → Contains numbers b �
 IsLastWithin h numbers session number (Some last) =
     Contains numbers last × IsTrue (is_within h session number last) × ((b : ℕ) → Contains numbers b → IsTrue (is_within h session number b) → b ≤ last)
 
--- none of these that is of the session, and no later than the place, stands behind the source
+-- none of these that is of the session, and no later than the place, comes after the source
 abbrev pub StandBefore : History → List ℕ → List ℕ → ℕ → ℕ → ℕ → Type 0
 StandBefore h positions writers session number source =
     (b : ℕ) → Contains writers b → 0 < b → owner h b ≡ session → place h b ≤ number → slice_index positions b ≤ slice_index positions source
@@ -43,12 +43,12 @@ abbrev pub StandAllBefore : History → List ℕ → List ℕ → List ℕ → �
 StandAllBefore h positions clock writers source =
     (session : ℕ) → session < length clock → StandBefore h positions writers session (slice_index clock session) source
 
--- who reads from a, no other writer of the key that may reach it stands behind a
+-- c's read from a is kept: no other writer of the key that may reach c comes after a
 abbrev pub IsReadKept : History → Level → List ℕ → List (List ℕ) → List ℕ → ℕ → ℕ → Type 0
 IsReadKept h level positions clocks x a c =
     (b : ℕ) → MayContradict h b a x c → MayReach h level clocks b c → slice_index positions b < slice_index positions a
 
--- so for each of its reads
+-- the same for each of its reads
 abbrev pub AreReadsKept : History → Level → List ℕ → List (List ℕ) → ℕ → Type 0
 AreReadsKept h level positions clocks c = (x : List ℕ) (a : ℕ) → IsReadsPair h a c x → IsReadKept h level positions clocks x a c
 
@@ -56,7 +56,7 @@ AreReadsKept h level positions clocks c = (x : List ℕ) (a : ℕ) → IsReadsPa
 abbrev pub AreOwned : History → Type 0
 AreOwned h = (n : ℕ) → 0 < n → n < count h → owner h n < length h.sessions
 
--- no two stand at one position
+-- no two are at one position
 abbrev pub AreApart : List ℕ → Type 0
 AreApart positions = (a : ℕ) (b : ℕ) → a < length positions → b < length positions → slice_index positions a ≡ slice_index positions b → a ≡ b
 
@@ -65,7 +65,7 @@ pub record AreRising (h : History) (numbers : List ℕ) : Type 0 where
   pub rising : IsNonDecreasing numbers
   pub below : All (λ b. b < count h) numbers
 
--- each transaction has a position, and in session order each stands before the next
+-- each transaction has a position, and in session order each comes before the next
 pub record KeepsSessions (h : History) (positions : List ℕ) : Type 0 where
   pub numbered : IsBySession h.entries
   pub long : length positions ≡ count h

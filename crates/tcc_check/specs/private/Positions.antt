@@ -13,12 +13,12 @@ pub record ArePositions (order : List ℕ) (positions : List ℕ) : Type 0 where
   pub within : (a : ℕ) → a < length order → slice_index positions a < length order
   pub here : (a : ℕ) → a < length order → slice_index order (slice_index positions a) ≡ a
 
--- b stands before c, and the clock of c, where there are clocks, has that of b and b itself
+-- b comes before c, and the clock of c, where there are clocks, has that of b and b itself
 abbrev pub IsKept : History → Level → List ℕ → List (List ℕ) → ℕ → ℕ → Type 0
 IsKept h level positions clocks b c =
     (slice_index positions b < slice_index positions c) × (level ≡ Causal → HasInClock h clocks b c)
 
--- by these weights nothing lacks for b to contradict a, and b does not stand before a
+-- by these weights nothing is missing for b to contradict a, and b is not before a
 abbrev pub IsBehind : List ℕ → List ℕ → ℕ → ℕ → Type 0
 IsBehind weights positions b a =
     (a < length positions) × (slice_index weights a ≡ 0) × (slice_index positions a ≤ slice_index positions b)

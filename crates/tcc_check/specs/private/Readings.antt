@@ -4,7 +4,7 @@ use Rattle.tcc_reads.specs.History.{History}
 use Rattle.tcc_graph.specs.Keys.{key_at, keys}
 use Rattle.tcc_graph.specs.Relations.{IsReadsPair}
 
--- each who reads a key, with the source, and no others
+-- each reader of a key with its source, and no others
 pub record AreReadingsAt (h : History) (key_index : ℕ) (readings : List (ℕ × ℕ)) : Type 0 where
   pub each : (a c : ℕ) → Contains readings (c, a) → IsReadsPair h a c (key_at h key_index)
   pub all : (a c : ℕ) → IsReadsPair h a c (key_at h key_index) → Contains readings (c, a)
@@ -13,12 +13,12 @@ pub record AreReadingsAt (h : History) (key_index : ℕ) (readings : List (ℕ �
 abbrev pub readings_at : List (Option (List (ℕ × ℕ))) → ℕ → Option (List (ℕ × ℕ))
 readings_at readings key_index = slice_index_or readings key_index None
 
--- so of the first keys
+-- the same of the first keys
 pub record AreReadingsTo (i : ℕ) (h : History) (readings : List (Option (List (ℕ × ℕ)))) : Type 0 where
   pub long : length readings ≡ i
   pub rows : (key_index : ℕ) → key_index < i → IfSome (readings_at readings key_index) (AreReadingsAt h key_index)
 
--- of all
+-- and for all
 abbrev pub AreReadings : History → List (Option (List (ℕ × ℕ))) → Type 0
 AreReadings h readings = AreReadingsTo (length (keys h)) h readings
 
@@ -35,6 +35,6 @@ PairWeighs sources readers row u v w =
 abbrev pub KeyWeighs : History → List ℕ → ℕ → ℕ → ℕ → ℕ → Type 0
 KeyWeighs h row u k v w = (c : ℕ) × IsReadsPair h v c (key_at h k) × (v ≢ u) × (w ≡ slice_index row c)
 
--- so of one of the keys
+-- the same for one of the keys
 abbrev pub KeysWeigh : History → List ℕ → List ℕ → ℕ → ℕ → ℕ → Type 0
 KeysWeigh h written row u v w = (k : ℕ) × Contains written k × KeyWeighs h row u k v w

@@ -1,4 +1,4 @@
--- Runs of session pairs: numbers of which each stands before the next in session order.
+-- Runs of session pairs: numbers, each before the next in session order.
 use Rattle.std.specs.Prelude.{ℕ, ◌<◌, ◌≤◌, ◌≡◌, ◌+◌, ◌⊎◌, List, length, slice_index}
 use Rattle.tcc_reads.specs.History.{History, count}
 use Rattle.tcc_graph.specs.Relations.{IsSessionPair}
@@ -12,7 +12,7 @@ pub record HasRuns (begins : List ℕ) : Type 0 where
   pub within : (v : ℕ) → v < length begins → slice_index begins v ≤ v
   pub onward : (v : ℕ) → v + 1 < length begins → (slice_index begins (v + 1) ≡ v + 1) ⊎ (slice_index begins (v + 1) ≡ slice_index begins v)
 
--- what is in a transaction's run stands before it in session order, and nothing else does
+-- what is in a transaction's run comes before it in session order, and nothing else does
 pub record AreRuns (h : History) (begins : List ℕ) : Type 0 where
   pub long : length begins ≡ count h
   pub runs : HasRuns begins

@@ -1,4 +1,4 @@
--- What is answered of where a row is broken first.
+-- The result of a search for where a row is broken first.
 use Rattle.std.specs.Prelude.{ℕ, ◌≡◌, ◌<◌, ◌≤◌, ◌+◌, ◌-◌, ◌⊎◌, List, length, slice_index, Contains, Option, None, Some, MatchOption, min}
 use Rattle.tcc_reads.specs.History.{History}
 use Rattle.tcc_graph.specs.Relations.{IsSessionPair}
@@ -26,7 +26,7 @@ lesser None other = other
 lesser (Some one) None = Some one
 lesser (Some one) (Some other) = Some (min one other)
 
--- one of these links to v, after so many steps, takes less than the row has, whose numbers are those from `low` upward
+-- after this many steps one of these links to v costs less than the row has; its numbers are those from `low` upward
 abbrev pub IsOvershot : List (ℕ × ℕ) → List ℕ → ℕ → ℕ → ℕ → Type 0
 IsOvershot ends row low before v =
     (low ≤ v) × (w : ℕ) × Contains ends (v, w) × (before + 1 + w < slice_index row (v - low))
@@ -35,14 +35,14 @@ IsOvershot ends row low before v =
 abbrev pub IsOvershotAt : List ℕ → List ℕ → ℕ → ℕ → ℕ → Type 0
 IsOvershotAt ends row low cost v = (low ≤ v) × Contains ends v × (cost < slice_index row (v - low))
 
--- a session pair of the end's run, after what the row has for its start, takes less than the row has
+-- a session pair of the end's run, after what the row has for its start, costs less than the row has
 abbrev pub IsLongRun : ℕ → List ℕ → ℕ → ℕ → Type 0
 IsLongRun begin row low end = (u : ℕ) × IsInRun begin end u × (low ≤ u) × (slice_index row (u - low) + 1 < slice_index row (end - low))
 
 abbrev pub IsLongRunTo : List ℕ → List ℕ → ℕ → ℕ → Type 0
 IsLongRunTo begins row low end = (low ≤ end) × IsLongRun (slice_index begins end) row low end
 
--- so does one of the other links, which stand by their starts
+-- the same for one of the other links, which are listed by their starts
 abbrev pub IsLongOther : List (List (ℕ × ℕ)) → List ℕ → ℕ → ℕ → Type 0
 IsLongOther others row low v =
     (u : ℕ) × (low ≤ u) × (u < low + length row) × IsOvershot (ends_of others u) row low (slice_index row (u - low)) v
@@ -60,6 +60,6 @@ IsFirstLong None start begins others row low result =
 abbrev pub IsLongPair : History → List ℕ → ℕ → ℕ → ℕ → Type 0
 IsLongPair h row low start v = (low ≤ v) × IsSessionPair h start v × (1 < slice_index row (v - low))
 
--- or more than one of the other links from the start takes
+-- or more than one of the other links from the start costs
 abbrev pub IsLongSingle : History → List (ℕ × ℕ) → List ℕ → ℕ → ℕ → ℕ → Type 0
 IsLongSingle h others row low start v = IsLongPair h row low start v ⊎ IsOvershot others row low 0 v

@@ -3,11 +3,11 @@
 use Rattle.std.specs.Prelude.{ℕ, ◌<◌, ◌≤◌, ◌≡◌, ◌⊎◌, List, length, slice_index}
 use Rattle.std.specs.List.Sorted.{IsNonDecreasingBy}
 
--- stands where there is no link: no number of a table is above it
+-- the weight where there is no link: no number of a table is above it
 abbrev pub unlinked : ℕ
 unlinked = 4294967295
 
--- the row has for each end the least of its weights, or stands for no link
+-- the row has for each end the least of its weights, or the weight of no link
 pub record IsLeastRow (weighs : ℕ → ℕ → Type 0) (row : List ℕ) : Type 0 where
   pub low : (u : ℕ) (w : ℕ) → u < length row → weighs u w → slice_index row u ≤ w
   pub from : (u : ℕ) → u < length row → (slice_index row u ≡ unlinked) ⊎ weighs u (slice_index row u)

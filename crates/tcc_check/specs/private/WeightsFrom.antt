@@ -38,7 +38,7 @@ pub record AreLightEnds (weights : List ℕ) (least : ℕ) (ends : List (ℕ × 
   pub only : (link : ℕ × ℕ) → Contains ends link → (link.0 < length weights) × (slice_index weights link.0 ≡ link.1) × (link.1 + 1 < least)
   pub sorted : AreByWeight ends
 
--- links are among these, and those that take less than the limit have their least weights there, the lighter first
+-- links are among these, and those that cost less than the limit have their least weights there, the lighter first
 pub record AreEnds (weighs : ℕ → ℕ → Type 0) (n : ℕ) (least : ℕ) (ends : List (ℕ × ℕ)) : Type 0 where
   pub each : (v : ℕ) (w : ℕ) → v < n → weighs v w → w + 1 < least → (k : ℕ) × (k ≤ w) × Contains ends (v, k)
   pub only : (link : ℕ × ℕ) → Contains ends link → (link.0 < n) × weighs link.0 link.1
@@ -48,11 +48,11 @@ pub record AreEnds (weighs : ℕ → ℕ → Type 0) (n : ℕ) (least : ℕ) (en
 abbrev pub ends_of : List (List (ℕ × ℕ)) → ℕ → List (ℕ × ℕ)
 ends_of ends u = slice_index_or ends u []
 
--- so from each of the first starts
+-- the same from each of the first starts
 pub record AreEndsTo (i : ℕ) (weighs : ℕ → ℕ → ℕ → Type 0) (n : ℕ) (least : ℕ) (ends : List (List (ℕ × ℕ))) : Type 0 where
   pub long : length ends ≡ i
   pub rows : (u : ℕ) → u < i → AreEnds (weighs u) n least (ends_of ends u)
 
--- from each
+-- and from all starts
 abbrev pub AreAllEnds : (ℕ → ℕ → ℕ → Type 0) → ℕ → ℕ → List (List (ℕ × ℕ)) → Type 0
 AreAllEnds weighs n least ends = AreEndsTo n weighs n least ends

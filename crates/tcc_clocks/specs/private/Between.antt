@@ -1,4 +1,4 @@
--- Numbers that rise, from a bound to below another.
+-- Ascending numbers, from a bound to below another.
 use Rattle.std.specs.Prelude.{ℕ, ◌<◌, ◌≤◌, List, Contains}
 use Rattle.std.specs.List.Sorted.{IsNonDecreasing}
 

@@ -1,4 +1,4 @@
--- How the row of a transaction comes of the rows of those right beside it.
+-- How the row of a transaction follows from the rows of those right beside it.
 use Rattle.std.specs.Prelude.{ℕ, ◌+◌, ◌==◌, ◌&&◌, nat_lt, if◌then◌else◌, max, min, List, slice_index}
 use Rattle.tcc_reads.specs.History.{History}
 use Rattle.tcc_clocks.specs.Clocks.{AreEntries, HasRows, IsOn, IsWith}
@@ -14,12 +14,12 @@ abbrev pub joined : Side → ℕ → ℕ → ℕ
 joined Past one other = max one other
 joined Future one other = min one other
 
--- the entry of a session of which nobody is told
+-- the entry of a session for the empty set
 abbrev pub empty_entry : Side → ℕ → ℕ
 empty_entry Past count = 0
 empty_entry Future count = count
 
--- the entry of session k of the block, together with p where p is of it
+-- the entry of session k of the block, together with p if p is in that session
 abbrev pub with_own : Side → List ℕ → ℕ → ℕ → ℕ → ℕ → ℕ
 with_own side owners from p k entry = if nat_lt 0 p && (slice_index owners p == from + k) then joined side p entry else entry
 

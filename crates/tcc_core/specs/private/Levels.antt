@@ -17,7 +17,7 @@ pub record IsLevel (costs : List ℕ) (level : Level) : Type 0 where
   pub room : HasRoom (length costs) level
   pub met : 0 < level.cost → IsMet level.cost level.marks.items costs
 
--- as many levels as there may be costs at a time
+-- as many levels as there may be costs at one time
 pub record AreLevels (costs : List ℕ) (levels : List Level) : Type 0 where
   pub long : length levels ≡ LEVELS
   pub each : All (IsLevel costs) levels
@@ -30,12 +30,12 @@ pub record IsClass (n : ℕ) (class : Class) : Type 0 where
 abbrev pub AreClasses : ℕ → List Class → Type 0
 AreClasses n classes = (class : Class) → Contains classes class → IsClass n class
 
--- from where d was spent a link of one of the classes leads on to v, a number from s upward; it costs at most `left`, and all
--- that n
+-- From a transaction at cost d a link of one of the classes leads on to v, a number from s upward. The link costs at most `left`, and the
+-- whole way n.
 abbrev pub IsClassWay : List Class → ℕ → ℕ → ℕ → ℕ → ℕ → Type 0
 IsClassWay classes s d left v n =
     (s ≤ v) × (class : Class) × Contains classes class × (is_marked class.marks v ≡ true) × (class.cost ≤ left) × (d + class.cost ≡ n)
 
--- each link that costs at most `left`, other than session links, is within the limit up to which links stand by class
+-- each link that costs at most `left`, other than session links, is within the limit up to which links are kept by class
 abbrev pub AreClassed : Tables → ℕ → Type 0
 AreClassed t left = (left ≤ t.limit) ⊎ AreWithin t.limit t.others

@@ -4,8 +4,8 @@ use Rattle.tcc_txn.specs.declared.limits.TheConstants.{MAX_COUNT}
 use Rattle.tcc_core.specs.declared.bucket_queue.TheConstants.{BUCKETS}
 use Rattle.tcc_core.specs.declared.queue.TheConstants.{NO_WAY}
 
--- of each transaction the cost at which it is open; 0 where it is settled, and NO_WAY where no way was offered. No way that
--- costs as little as the floor is taken any more
+-- For each transaction the cost at which it is open; 0 where it is settled, and NO_WAY where no way was offered. A way that costs as little
+-- as the floor is no longer accepted.
 pub record Queue : Type 0 where
   pub costs : List ℕ
   pub floor : ℕ
@@ -17,7 +17,7 @@ pub record IsNearest (costs : List ℕ) (v : ℕ) : Type 0 where
   pub reached : slice_index costs v < NO_WAY
   pub least : (u : ℕ) → u < length costs → 0 < slice_index costs u → slice_index costs v ≤ slice_index costs u
 
--- one of those that costs at most the cap; it lies in the window that begins at the floor
+-- one of those that costs at most the cap; it is in the window that begins at the floor
 pub record IsNext (queue : Queue) (cap v : ℕ) : Type 0 where
   pub near : IsNearest queue.costs v
   pub within : slice_index queue.costs v ≤ cap
@@ -32,32 +32,31 @@ IsPast cap costs = (u : ℕ) → u < length costs → 0 < slice_index costs u �
 abbrev pub IsUnreached : List ℕ → Type 0
 IsUnreached costs = (v : ℕ) → v < length costs → slice_index costs v ≡ NO_WAY
 
--- so many transactions, to none of which a way is known
+-- this many transactions, to none of which a way is known
 pub record IsBeginning (count : ℕ) (queue : Queue) : Type 0 where
   pub long : length queue.costs ≡ count
   pub none : IsUnreached queue.costs
   pub floor : queue.floor ≡ 0
 
--- a way to v at this cost is taken where it costs more than the floor, no more than a link beyond it, and less than what is
--- known
+-- A way to v at this cost is accepted where it costs more than the floor, at most one link more, and less than what is known.
 abbrev pub offered : ℕ → List ℕ → ℕ → ℕ → List ℕ
 offered floor costs v cost = if nat_lt floor cost && (nat_lt (cost - floor) BUCKETS && nat_lt cost (slice_index costs v)) then slice_set costs v cost else costs
 
--- ---- how they stand in the buckets
+-- ---- how they are in the buckets
 
--- a transaction that is open at this cost stands in this bucket
+-- a transaction that is open at this cost is in this bucket
 pub record IsOpen (floor most cost b : ℕ) : Type 0 where
   pub some : 0 < cost
   pub above : floor ≤ cost
   pub below : cost ≤ most
   pub at : b ≡ cost % BUCKETS
 
--- one that is settled or was not reached stands in no bucket
+-- one that is settled or was not reached is in no bucket
 pub record IsShut (cost b : ℕ) : Type 0 where
   pub none : (cost ≡ NO_WAY) ⊎ (cost ≡ 0)
   pub out : BUCKETS ≤ b
 
--- no way leads to v, and it stands in no bucket
+-- no way leads to v, and it is in no bucket
 abbrev pub IsFar : List ℕ → List ℕ → ℕ → Type 0
 IsFar costs buckets v = (slice_index costs v ≡ NO_WAY) × (BUCKETS ≤ slice_index buckets v)
 
@@ -72,7 +71,7 @@ abbrev pub count_reached : List ℕ → ℕ
 count_reached [] = 0
 count_reached (cost ∷ costs) = if cost == NO_WAY then count_reached costs else (count_reached costs + 1)
 
--- each one that was reached stands in the list of those, before the index where the next one comes
+-- each one that was reached is in the list of those, before the index where the next one comes
 pub record IsListed (held : ℕ) (listed costs : List ℕ) : Type 0 where
   pub long : length listed ≡ length costs
   pub few : length listed ≤ MAX_COUNT

@@ -1,4 +1,4 @@
--- How the costs of a search go with its row, and how far they grow.
+-- How the costs of a search relate to its row, and how far they grow.
 use Rattle.std.specs.Prelude.{ℕ, ◌<◌, ◌≤◌, ◌≡◌, ◌+◌, ◌*◌, List, [], ◌∷◌, length, Option, None, Some, slice_index}
 use Rattle.tcc_txn.specs.declared.limits.TheConstants.{MAX_COUNT}
 use Rattle.tcc_core.specs.Rows.{in_row}
@@ -11,8 +11,8 @@ count_joined [] = 0
 count_joined (None ∷ row) = count_joined row
 count_joined (Some c ∷ row) = count_joined row + 1
 
--- few transactions; those that have joined are settled at no more than the floor, and no others are; with each that joins the
--- floor rises by one link at most, so that it stays small, and ways as cheap as the floor are known
+-- There are few transactions. Those that have joined are settled at no more than the floor, and no others are. With each that joins the
+-- floor rises by at most one link, so it stays small, and ways as cheap as the floor are known.
 pub record IsBounded (search : Search) (floor : ℕ) : Type 0 where
   pub below : search.start < length search.row
   pub few : length search.row ≤ MAX_COUNT

@@ -1,4 +1,4 @@
--- Who reads each key from whom, and which keys each transaction writes.
+-- Which transactions read each key from which, and which keys each transaction writes.
 use Rattle.std.specs.Prelude.{ℕ, ◌<◌, ◌≡◌, ◌↔◌, List, length, Contains}
 use Rattle.tcc_reads.specs.History.{History, count}
 use Rattle.tcc_graph.specs.Relations.{IsReadsPair}

@@ -3,7 +3,7 @@ use Rattle.std.specs.Prelude.{ℕ, ◌+◌, ◌<◌, ◌≤◌, ◌≡◌, ◌�
 use Rattle.tcc_derive.specs.declared.read.Read.{Read}
 use Rattle.tcc_near.specs.declared.walk_lengths.TheConstants.{NONE}
 
--- one more, but no more than a row can hold
+-- one more, but at most what a row can hold
 abbrev pub one_more : ℕ → ℕ
 one_more n = min (n + 1) NONE
 
@@ -11,8 +11,8 @@ one_more n = min (n + 1) NONE
 abbrev pub price_by : List ℕ → Read → ℕ
 price_by steps r = one_more (slice_index steps r.reader)
 
--- the source of each read has no more steps than lead to the reader; and each number of steps comes from one of the reads,
--- or is as it was
+-- the source of each read has at most as many steps as lead to the reader; and each number of steps comes from one of the
+-- reads, or is as it was
 pub record Lowers (reads : List Read) (steps : List ℕ) (old : List ℕ) (new : List ℕ) : Type 0 where
   pub long : length new ≡ length old
   pub kept : (a : ℕ) → slice_index new a ≤ slice_index old a
@@ -20,8 +20,8 @@ pub record Lowers (reads : List Read) (steps : List ℕ) (old : List ℕ) (new :
   pub from : (a : ℕ) → (slice_index new a ≡ slice_index old a)
       ⊎ ((r : Read) × Contains reads r × (r.source ≡ a) × (slice_index new a ≡ slice_index steps r.reader))
 
--- the source of each read costs no more than what it costs b to contradict the read, unless b itself is the source;
--- and each cost comes from one of the reads, or is none
+-- The source of each read costs at most what it costs b to contradict the read, unless b itself is the source. Each cost comes
+-- from one of the reads, or is none.
 pub record ArePricedBy (reads : List Read) (steps : List ℕ) (b : ℕ) (costs : List ℕ) : Type 0 where
   pub long : length costs ≡ length steps
   pub lowered : (r : Read) → Contains reads r → r.source ≢ b → slice_index costs r.source ≤ price_by steps r
@@ -34,7 +34,7 @@ pub record HaveReads (n : ℕ) (reads : List (List Read)) (keys : List ℕ) : Ty
   pub sources : All (λ bucket. All (λ r. r.source < n) bucket) reads
   pub readers : All (λ bucket. All (λ r. r.reader < n) bucket) reads
 
--- 1 where one step leads, and elsewhere the price
+-- 1 if one step leads there, else the price
 pub record HasPairs (steps : List ℕ) (prices : List ℕ) (costs : List ℕ) : Type 0 where
   pub long : length costs ≡ length prices
   pub each : (v : ℕ) → v < length prices → slice_index costs v ≡ (if slice_index steps v == 1 then 1 else slice_index prices v)

@@ -20,7 +20,7 @@ abbrev pub others_below : History → ℕ → List ℕ → List ℕ → ℕ → 
 others_below h u prices costs zero = []
 others_below h u prices costs (suc n) = others_below h u prices costs n ++ (if is_other h u prices costs n then (n, slice_index costs n) ∷ [] else [])
 
--- what passes by the prices from u and by some costs, which are 1 where one step leads and elsewhere the price
+-- what passes by the prices from u and by some costs, which are 1 if one step leads there, else the price
 abbrev pub IsOtherRow : History → ℕ → List ℕ → List ℕ → List (ℕ × ℕ) → Type 0
 IsOtherRow h u steps prices row = (costs : List ℕ) × HasPairs steps prices costs × (row ≡ others_below h u prices costs (count h))
 
@@ -29,7 +29,7 @@ pub record HasOtherRows (h : History) (near : List (List ℕ)) (prices : List (L
   pub long : length rows ≡ count h
   pub each : (u : ℕ) → u < count h → IsOtherRow h u (row_of near u) (row_of prices u) (row_of rows u)
 
--- where the numbers end that session pairs lead to, for each transaction
+-- the end of the numbers that session pairs lead to, for each transaction
 pub record HasEnds (h : History) (ends : List ℕ) : Type 0 where
   pub long : length ends ≡ count h
   pub each : (u : ℕ) → u < count h → IsEnd h u (slice_index ends u)

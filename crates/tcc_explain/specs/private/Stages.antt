@@ -1,4 +1,4 @@
--- What the parts of an answer tell one another.
+-- What the parts of an answer ensure to one another.
 use Rattle.std.specs.Prelude.{ℕ, ◌≡◌, ◌<◌, List, [], length}
 use Rattle.tcc_txn.specs.Snapshots.{Sessions}
 use Rattle.tcc_reads.specs.Faults.{read_faults}
@@ -10,7 +10,7 @@ use Rattle.tcc_core.specs.Returns.{IsFirstReturn}
 use Rattle.tcc_core.specs.declared.first_return.FirstReturn.{FirstReturn}
 use Rattle.tcc_graph.specs.Labels.{labels_of}
 use Rattle.tcc_explain.specs.private.Capping.{AreFarRows}
-use Rattle.tcc_explain.specs.declared.explaining.Searched.{Searched}
+use Rattle.tcc_explain.specs.declared.explaining.SearchedCycle.{SearchedCycle}
 use Rattle.tcc_reads.specs.declared.fault.ResolveFault.{ResolveFault}
 use Rattle.tcc_reads.specs.declared.fault.ResolveFault.TheVariants as whole
 use Rattle.tcc_explain.specs.declared.fault.NextFault.{NextFault}
@@ -20,8 +20,8 @@ use Rattle.tcc_explain.specs.declared.fault.NextFault.TheVariants as refusal
 abbrev pub IsLabelledHistory : Sessions → History → List (List ℕ) → Type 0
 IsLabelledHistory s h labels = (read_faults s ≡ []) × (h ≡ history s) × (labels ≡ labels_of h)
 
--- what the searches found of a history with a cycle: rows capped at what a least one costs, and the first start that leads back
-pub record IsSearched (j : Judged) (searched : Searched) : Type 0 where
+-- what the searches found of a history with a cycle: rows capped at the cost of a least one, and the first start that leads back
+pub record IsSearched (j : Judged) (searched : SearchedCycle) : Type 0 where
   pub rows : AreFarRows j searched.cost searched.rows.items
   pub below : searched.start < length searched.rows.items
   pub first : (back : FirstReturn) → back.start ≡ searched.start → back.cost ≡ searched.cost

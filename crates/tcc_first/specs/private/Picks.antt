@@ -10,7 +10,7 @@ use Rattle.tcc_graph.specs.Routes.{LinksLead}
 use Rattle.tcc_graph.specs.Ties.{link_cmp}
 use Rattle.tcc_graph.specs.declared.link.Link.{Link}
 
--- the link leads into v, and links from s to where it begins cost what it leaves of n
+-- the link leads into v, and links from s to where it begins cost the rest of n
 pub record EndsWay (j : Judged) (s : ℕ) (v : ℕ) (n : ℕ) (l : Link) : Type 0 where
   pub to : link_to l ≡ v
   pub link : IsLink j l
@@ -51,6 +51,6 @@ pub record IsFirstContradictedAt (h : History) (lengths : List ℕ) (n : ℕ) (b
 abbrev pub NoneContradictedUpTo : History → List ℕ → ℕ → ℕ → ℕ → Type 0
 NoneContradictedUpTo h lengths n b a = (m : ℕ) → 0 < m → m ≤ n → (x : List ℕ) (c : ℕ) → IsContradictedAt h lengths m b a x c → ⊥
 
--- the lowest number of those that are so, or none where none is
+-- the lowest number with the property, or none where no number has it
 abbrev pub IsLowestOf : (ℕ → Type 0) → Option ℕ → Type 0
 IsLowestOf Is found = MatchOption found ((u : ℕ) → Is u → ⊥) (λ u. Is u × ((v : ℕ) → Is v → u ≤ v))

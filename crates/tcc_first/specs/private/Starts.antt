@@ -6,7 +6,7 @@ use Rattle.tcc_graph.specs.Routes.{IsCycle, IsLeastCycle}
 use Rattle.tcc_graph.specs.declared.link.Link.{Link}
 use Rattle.tcc_least.specs.Shapes.{NoneBelow}
 
--- a least cycle of n steps starts at s, and none starts below
+-- a least cycle of n steps starts at s, and none starts below s
 pub record IsFirstStart (j : Judged) (s : ℕ) (n : ℕ) : Type 0 where
   pub attained : (links : List Link) × IsCycle j s links × (cost links ≡ n)
   pub least : NoneBelow j n

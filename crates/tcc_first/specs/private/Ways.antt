@@ -1,4 +1,4 @@
--- Ways of two steps at most, and cycles of three, by where they lead.
+-- Ways of at most two steps, and cycles of three, by where they lead.
 use Rattle.std.specs.Prelude.{ℕ, ◌+◌, ◌<◌, ◌≤◌, ◌≡◌, ◌⊎◌, List}
 use Rattle.tcc_reads.specs.History.{History}
 use Rattle.tcc_graph.specs.Keys.{IsWriter}
@@ -21,11 +21,11 @@ IsReadTwoStep h b a = (x : List ℕ) × (c : ℕ) × MayContradict h b a x c × 
 abbrev pub HasBetween : History → ℕ → ℕ → Type 0
 HasBetween h s u = (w : ℕ) × IsCausalPair h s w × IsCausalPair h w u
 
--- links lead from s to u that cost n, which is two at most
+-- links lead from s to u that cost n, which is at most two
 abbrev pub IsWay : History → ℕ → ℕ → ℕ → Type 0
 IsWay h n s u = ((n ≡ 0) × (s ≡ u)) ⊎ (((n ≡ 1) × IsCausalPair h s u) ⊎ ((n ≡ 2) × (IsTwoStep h s u ⊎ HasBetween h s u)))
 
--- so many pairs lead from s to u, two at most
+-- n pairs lead from s to u; n is at most two
 abbrev pub HasPairs : History → ℕ → ℕ → ℕ → Type 0
 HasPairs h n s u = ((n ≡ 0) × (s ≡ u)) ⊎ (((n ≡ 1) × IsCausalPair h s u) ⊎ ((n ≡ 2) × HasBetween h s u))
 
@@ -37,17 +37,18 @@ IsAroundByPairs h n s = (u : ℕ) × IsRead h u s × (s ≤ u) × ((m : ℕ) × 
 abbrev pub HasStaleSource : History → ℕ → Type 0
 HasStaleSource h s = (u : ℕ) × IsRead h u s × (s ≤ u) × IsTwoStep h s u
 
--- a writer of x leads by a pair to c, and follows a in session order with c behind it; or c reads from it, and a pair leads to it from a
+-- a writer of x comes after a and before c in session order; or it is above a, a pair leads to it from a, and c reads from it
 abbrev pub IsOverwritten : History → ℕ → ℕ → List ℕ → Type 0
 IsOverwritten h a c x =
     (b : ℕ) × IsWriter h b x × ((IsSessionPair h a b × IsSessionPair h b c) ⊎ ((a < b) × IsCausalPair h a b × IsRead h b c))
 
--- a cycle from s that costs n, with nothing below s beside it: over a transaction that s reads from, or over a derived link of two steps into s
+-- a cycle from s that costs n, with nothing below s beside it: over a transaction that s reads from, or over a derived link of two steps
+-- into s
 abbrev pub IsAround : History → ℕ → ℕ → Type 0
 IsAround h n s =
     ((u : ℕ) × IsRead h u s × (s ≤ u) × ((m : ℕ) × (m + 1 ≡ n) × IsWay h m s u)) ⊎ ((n ≡ 3) × ((b : ℕ) × IsReturn h b s × (s ≤ b)))
 
--- a link leads from u to v that costs q, and a way from s to u what it leaves of n
+-- a link that costs q leads from u to v, and a way from s to u costs the rest of n
 abbrev pub IsLastFrom : History → ℕ → ℕ → ℕ → ℕ → ℕ → Type 0
 IsLastFrom h s v n u q =
     ((q ≡ 1) × IsCausalPair h u v × ((m : ℕ) × (m + 1 ≡ n) × IsWay h m s u))

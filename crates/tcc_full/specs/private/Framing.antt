@@ -15,7 +15,7 @@ use Rattle.tcc_full.specs.Links.{row_json}
 use Rattle.tcc_full.specs.Objects.{committed_count, is_large, level_word, limits_json}
 use Rattle.tcc_full.specs.Records.{Records, read_row, value_from, write_row}
 use Rattle.tcc_full.specs.declared.framing.Frame.{Frame}
-use Rattle.tcc_full.specs.declared.objects.Asked.{Asked}
+use Rattle.tcc_full.specs.declared.objects.ReportOptions.{ReportOptions}
 
 -- members, with others after them
 abbrev pub joined : Members → Members → Members
@@ -44,7 +44,7 @@ IsFrame f = IsPlain (view f.before) × IsPlain (view f.after)
 -- ---- what each object has beside its list
 
 -- an order
-abbrev pub order_before : Asked → Data
+abbrev pub order_before : ReportOptions → Data
 order_before asked = object
     (member (codes "answer") (string (codes "consistent"))
     (member (codes "large") (boolean (is_large asked.limits))
@@ -52,7 +52,7 @@ order_before asked = object
     (member (codes "limits") (limits_json asked.limits)
     no_members))))
 
-abbrev pub order_after : Asked → Records → Status → Data
+abbrev pub order_after : ReportOptions → Records → Status → Data
 order_after asked r status = object
     (member (codes "sessions") (number (unsigned (length r.history.sessions)))
     (member (codes "status") (number (unsigned (code_of status)))
@@ -64,7 +64,7 @@ order_after asked r status = object
 abbrev pub list_before : List ℕ → Data
 list_before word = object (member (codes "answer") (string word) no_members)
 
-abbrev pub cycle_after : Asked → Records → List Link → Data
+abbrev pub cycle_after : ReportOptions → Records → List Link → Data
 cycle_after asked r links = object
     (member (codes "large") (boolean (is_large asked.limits))
     (member (codes "least") (boolean true)
@@ -78,7 +78,7 @@ cycle_after asked r links = object
     (member (codes "version") (string asked.version.now)
     no_members))))))))))
 
-abbrev pub faults_after : Asked → Records → Data
+abbrev pub faults_after : ReportOptions → Records → Data
 faults_after asked r = object
     (member (codes "large") (boolean (is_large asked.limits))
     (member (codes "level") (string (level_word asked.level))

@@ -1,4 +1,4 @@
--- What is marked of some names.
+-- Which of some names are marked.
 use Rattle.std.specs.Prelude.{ℕ, ◌+◌, Bool, true, false, if◌then◌else◌, List, [], ◌∷◌, map, slice_index_or}
 use Rattle.tcc_reads.specs.Indexed.{Indexed}
 
@@ -6,7 +6,7 @@ use Rattle.tcc_reads.specs.Indexed.{Indexed}
 abbrev pub is_marked : List Bool → ℕ → Bool
 is_marked marks k = slice_index_or marks k false
 
--- the names that are marked
+-- the marked names
 abbrev pub kept_of : List (List ℕ) → List Bool → List (List ℕ)
 kept_of [] marks = []
 kept_of (x ∷ xs) [] = []

@@ -1,4 +1,4 @@
--- What transactions write and read by the indices of the keys, and the table of who reads from whom.
+-- What transactions write and read by the indices of the keys, and the table of which read from which.
 use Rattle.std.specs.Prelude.{ℕ, ◌<◌, ◌≤◌, ◌≡◌, ◌==◌, Bool, true, false, List, [], ◌++◌, length, map, filter, slice_index_or, All}
 use Rattle.tcc_txn.specs.declared.limits.TheConstants.{LARGE_COUNT}
 use Rattle.std.specs.List.Sorted.{IsStrictlySortedBy}
@@ -13,7 +13,7 @@ use Rattle.tcc_graph.specs.Tables.{row_of}
 abbrev pub values_from : {X : Type 0} → List (X × ℕ) → ℕ → List X
 values_from reads a = map (λ read. read.0) (filter (λ read. read.1 == a) reads)
 
--- each read of a transaction went to the end of the row of its source
+-- each read of a transaction was added at the end of the row of its source
 pub record AddsReads (old : List (List (ℕ × ℕ))) (new : List (List (ℕ × ℕ))) (reader : ℕ) (reads : List (ℕ × ℕ)) : Type 0 where
   pub long : length new ≡ length old
   pub rows : (a : ℕ) → row_of new a ≡ row_of old a ++ as_group reader (values_from reads a)
@@ -23,7 +23,7 @@ pub record IsSourceTable (count : ℕ) (reads : ℕ → List (ℕ × ℕ)) (n : 
   pub long : length table ≡ count
   pub rows : (a : ℕ) → a < count → row_of table a ≡ groups (λ b. values_from (reads b) a) n
 
--- the history of these transactions, with no sessions: the relations ask for none
+-- the history of these transactions, without sessions: the relations don't need them
 abbrev pub over : List Entry → History
 over entries = record { sessions = []; entries = entries }
 
@@ -47,12 +47,12 @@ pub record IsIndexed (names : List (List ℕ)) (e : Entry) (p : Indexed) : Type 
   pub writes_within : All (λ k. k < length names) p.writes
   pub reads_within : All (λ read. read.0 < length names) p.reads
 
--- only numbers that pass are indices of its keys
+-- the indices of its keys all pass the test
 pub record UsesOnly (passes : ℕ → Bool) (p : Indexed) : Type 0 where
   pub writes : All (λ k. passes k ≡ true) p.writes
   pub reads : All (λ read. passes read.0 ≡ true) p.reads
 
--- only numbers that pass are marked
+-- only numbers that pass the test are marked
 abbrev pub MarksOnly : (ℕ → Bool) → List Bool → Type 0
 MarksOnly passes marks = (k : ℕ) → k < length marks → slice_index_or marks k false ≡ true → passes k ≡ true
 
@@ -69,11 +69,11 @@ IsIndexTable count indexed n table = IsSourceTable count (λ b. (indexed_of inde
 abbrev pub HasSources : ℕ → Entry → Type 0
 HasSources n e = All (λ read. read.1 < n) e.reads
 
--- the reads of a transaction stand in order, each once
+-- the reads of a transaction are in order, each once
 abbrev pub HasReadsInOrder : Entry → Type 0
 HasReadsInOrder e = IsStrictlySortedBy pair_cmp e.reads
 
--- the transactions of a history, which are few, have sessions and read from one another
+-- the transactions of a history are few, have sessions and read from one another
 pub record IsListOf (h : History) (entries : List Entry) : Type 0 where
   pub is : entries ≡ h.entries
   pub some : 0 < length entries

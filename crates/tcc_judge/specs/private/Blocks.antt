@@ -1,4 +1,4 @@
--- What is known of a block of sessions, as a pass goes back along an order.
+-- What is known about a block of sessions, as a pass goes back along an order.
 use Rattle.std.specs.Prelude.{ℕ, ◌<◌, ◌≡◌, ◌+◌, List, length, slice_index}
 use Rattle.tcc_reads.specs.History.{History, count}
 use Rattle.tcc_graph.specs.Keys.{keys}
@@ -25,7 +25,7 @@ pub record IsReady (h : History) (order : List ℕ) (block : Block) : Type 0 whe
   pub clocks_long : length block.clocks ≡ count h
   pub next_long : length block.next ≡ length (keys h)
 
--- the clocks are those of the block, and the next writers those behind the place
+-- the clocks are those of the block, and the next writers those after the place
 pub record IsAt (h : History) (order : List ℕ) (place : ℕ) (block : Block) : Type 0 where
   pub ready : IsReady h order block
   pub clocks : AreClocks h block.from block.clocks

@@ -1,4 +1,4 @@
--- An order as its runs come.
+-- An order, run by run.
 use Rattle.std.specs.Prelude.{ℕ, ◌<◌, ◌≤◌, ◌≡◌, ◌+◌, ◌++◌, ◌∷◌, [], Bool, true, false, List, All, length, slice_index}
 use Rattle.tcc_reads.specs.History.{History, IsBySession, count}
 use Rattle.tcc_graph.specs.Orders.{Before, IsNumbering}
@@ -6,12 +6,12 @@ use Rattle.tcc_graph.specs.Relations.{IsSessionPair}
 use Rattle.tcc_cert.specs.declared.large.Run.{Run}
 use Rattle.tcc_judge.specs.Runs.{AreWhole, first_of, told_of, order_of}
 
--- where the transactions of each session begin; behind the last session stands the number of all
+-- where the transactions of each session begin; after the last session comes the number of all transactions
 pub record AreFirsts (h : History) (firsts : List ℕ) : Type 0 where
   pub long : length firsts ≡ length h.sessions + 1
   pub each : (session : ℕ) → session < length h.sessions + 1 → slice_index firsts session ≡ first_of h session
 
--- these runs were told: where each session goes on, none past its end, and the order so far
+-- these runs were decoded: where each session goes on, none past its end, and the order so far
 pub record IsTold (h : History) (runs : List Run) (firsts : List ℕ) (next : List ℕ) (order : List ℕ) : Type 0 where
   pub begins : AreFirsts h firsts
   pub sessions : All (λ run. run.session < length h.sessions) runs
@@ -20,7 +20,7 @@ pub record IsTold (h : History) (runs : List Run) (firsts : List ℕ) (next : Li
   pub within : (session : ℕ) → session < length h.sessions → slice_index next session ≤ first_of h (session + 1)
   pub so_far : order ≡ order_of h runs
 
--- one run more was told, or there are not so many transactions of a session, whatever runs follow
+-- one more run was decoded; or the session has fewer transactions, whatever runs follow
 abbrev pub IsToldOn : History → List Run → Run → List ℕ → List ℕ → List ℕ → Bool → Type 0
 IsToldOn h runs run firsts next order true = IsTold h (runs ++ run ∷ []) firsts next order
 IsToldOn h runs run firsts next order false = (later : List Run) → AreWhole h (runs ++ run ∷ later) → ⊥

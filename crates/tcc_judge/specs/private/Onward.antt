@@ -1,4 +1,4 @@
--- The rules on that no cycle costs less, past a cost of 4.
+-- The rules that no cycle costs less, above a cost of 4.
 use Rattle.std.specs.Prelude.{ℕ, ◌<◌, ◌≤◌, ◌≡◌, List, [], ◌∷◌, All, AllPairs, Contains, length}
 use Rattle.tcc_reads.specs.History.{count}
 use Rattle.tcc_graph.specs.Keys.{key_at, keys}
@@ -15,8 +15,9 @@ use Rattle.tcc_rules.specs.Asked.{Asked, as_whole, at_each}
 use Rattle.tcc_judge.specs.declared.verdict.Rule.{Rule}
 use Rattle.tcc_judge.specs.declared.verdict.Rule.TheVariants.{Onward, Limits, Cheaper}
 
--- these are committed transactions, ascending, and indices of keys: a cycle that costs less than a cost up to `most` is among the
--- transactions, or else some transaction comes into `init` for less by one of the keys; and each derived link into `init` does
+-- these are committed transactions, ascending, and indices of keys. A cycle that costs less than a cost up to `most` is among the
+-- transactions, unless some transaction comes into `init` for less by one of the keys. Each derived link into `init` is by one of these
+-- keys
 pub record HasAllBelow (j : Judged) (most : ℕ) (members : List ℕ) (key_indices : List ℕ) : Type 0 where
   pub there : 0 < count j.history
   pub inside : All (λ v. v < count j.history) members

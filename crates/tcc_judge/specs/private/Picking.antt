@@ -1,4 +1,4 @@
--- What is known of the cycles below a cost.
+-- What is known about the cycles below a cost.
 use Rattle.std.specs.Global.{Vec}
 use Rattle.std.specs.Prelude.{ℕ, ◌<◌, ◌≤◌, ◌≡◌, ◌+◌, All, Option, None, Some}
 use Rattle.tcc_reads.specs.History.{History, count}
@@ -18,7 +18,7 @@ pub record IsOrderKept (h : History) (kept : OrderKept) : Type 0 where
   pub found : AreContradicted h kept.order.items kept.positions.items kept.found.lasts.items kept.found.stale.items
   pub leading : AreSources h kept.order.items kept.found.sources.items
 
--- some cycle costs less than `most`; and where none costs less than one step less, the links of the first of those begin at these
+-- some cycle costs less than `most`; and where none costs less than `most - 1`, the links of the first of those begin at these transactions
 abbrev pub IsCircleBelow : Judged → ℕ → Option (Vec ℕ) → Type 0
 IsCircleBelow j most None = NoneBelow j most
 IsCircleBelow j most (Some circle) =

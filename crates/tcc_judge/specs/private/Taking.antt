@@ -1,4 +1,4 @@
--- The link that comes now, with the steps of its walk that came so far.
+-- The link that is being read, with the steps of its walk so far.
 use Rattle.std.specs.Prelude.{◌≡◌, List, Some}
 use Rattle.tcc_reads.specs.History.{History}
 use Rattle.tcc_graph.specs.Links.{link_from}
@@ -9,7 +9,7 @@ use Rattle.tcc_rules.specs.Known.{IsKnownWalk}
 use Rattle.tcc_judge.specs.Taken.{AreTaken}
 use Rattle.tcc_judge.specs.declared.taken.TakenLinks.{TakenLinks}
 
--- these links came, and then one without its walk, and these steps of it
+-- these links were read, and then one without its walk, and these steps of it
 pub record IsTaking (taken : TakenLinks) (h : History) (sizes : LinksSizes) (links : List Link) (head : Link) (walk : List Step) : Type 0 where
   pub so_far : AreTaken taken h sizes links
   pub begun : taken.head ≡ Some head

@@ -1,11 +1,12 @@
--- The derived links that lead back, as they are found: of each transaction the least price of one that begins there, and the last
--- position from which one leads to it.
+-- The derived links that lead back, as they are found: for each transaction the least price of one that begins there, and the last position
+-- from which one leads to it.
 use Rattle.std.specs.Prelude.{ℕ, ◌<◌, ◌≤◌, ◌≡◌, ◌+◌, ◌⊎◌, List, Contains, length, slice_index}
 use Rattle.tcc_graph.specs.Levels.{Judged}
 use Rattle.tcc_lanes.specs.Nearness.{IsClosing}
 use Rattle.tcc_lanes.specs.private.Pricing.{cell}
 
--- those that are meant were taken in: no price rises and no last position falls, each new one is of one of them, and none of them is missing
+-- the links that are meant were taken in: no price rises and no last position falls, each new one belongs to one of these links, and none
+-- of them is missing
 pub record AreOffered (Is : ℕ → ℕ → ℕ → Type 0) (rank : ℕ → ℕ) (prices : List ℕ) (lasts : List ℕ) (new_prices : List ℕ) (new_lasts : List ℕ) : Type 0 where
   pub prices_same : length new_prices ≡ length prices
   pub lasts_same : length new_lasts ≡ length lasts
@@ -16,11 +17,11 @@ pub record AreOffered (Is : ℕ → ℕ → ℕ → Type 0) (rank : ℕ → ℕ)
   pub led : (a : ℕ) → (slice_index new_lasts a ≡ slice_index lasts a) ⊎ ((b : ℕ) × (price : ℕ) × Is b a price × (rank b ≡ slice_index new_lasts a))
   pub last : (b a price : ℕ) → Is b a price → rank b ≤ slice_index new_lasts a
 
--- one of a price from here to there
+-- a link of this price from here to there
 abbrev pub IsThis : ℕ → ℕ → ℕ → ℕ → ℕ → ℕ → Type 0
 IsThis from to this b a price = (b ≡ from) × (a ≡ to) × (price ≡ this)
 
--- a cell of a table of prices is of a link that leads back, and costs little enough
+-- a cell of a table of prices is that of a link that leads back and is cheap enough
 pub record IsCellOf (positions : List ℕ) (most : ℕ) (starts : List ℕ) (members : List ℕ) (table : List ℕ) (v : ℕ) (i : ℕ) (b : ℕ) (a : ℕ) (price : ℕ) : Type 0 where
   pub from : slice_index starts i ≡ b
   pub to : slice_index members v ≡ a

@@ -6,12 +6,12 @@ use Rattle.tcc_lanes.specs.private.Pricing.{price_of}
 abbrev pub IsMarked : List Bool → ℕ → Type 0
 IsMarked marks v = slice_index_or marks v false ≡ true
 
--- a link of these prices leads to a member that isn't seen
+-- these prices have a link to a member that isn't seen
 abbrev pub IsUnseen : List ℕ → List Bool → ℕ → Type 0
 IsUnseen prices seen v = (slice_index prices v ≢ NONE) × (slice_index_or seen v false ≡ false)
 
--- the members are numbered, and marked is each to which a link leads that doesn't lead to a lower number; so a cycle that passes none of
--- them would lead down all the way
+-- the members are numbered, and those are marked to which a link leads that doesn't lead to a lower number. So the numbers would fall all
+-- the way round a cycle that passes none of them
 pub record IsFeedbackVertexSet (rows : List (List ℕ)) (marks : List Bool) : Type 0 where
   pub long : length marks ≡ length rows
   pub number : ℕ → ℕ

@@ -13,7 +13,7 @@ use Rattle.tcc_lanes.specs.private.Marks.{HasLane, IsAt}
 abbrev pub IsWrittenBy : History → List ℕ → ℕ → ℕ → Type 0
 IsWrittenBy h key_lanes v i = (k : ℕ) × (k < length (keys h)) × (writes h v (key_at h k) ≡ true) × IsAt key_lanes k i
 
--- each lane is marked at who writes its key before the end, `init` left out, and nowhere else
+-- each lane is marked at the transactions before the end that write its key, except `init`, and nowhere else
 pub record AreBegun (h : History) (key_lanes : List ℕ) (end : ℕ) (begun : List ℕ) : Type 0 where
   pub long : length begun ≡ count h
   pub each : (v i : ℕ) → v < count h → i < LANES → IsAt begun v i ↔ ((0 < v) × (v < end) × IsWrittenBy h key_lanes v i)
@@ -27,19 +27,19 @@ IsReadOfInit h key_lanes word reader =
 abbrev pub IsMetByInit : History → List ℕ → List ℕ → Type 0
 IsMetByInit h key_lanes reached = (reader : ℕ) × (reader < count h) × IsReadOfInit h key_lanes (slice_index reached reader) reader
 
--- a derived link from b into `init` by a reader of the key at an index, of so many steps in its walk at most
+-- a derived link leads from b into `init`, by a reader of the key at an index and a walk of at most `most` steps
 abbrev pub LeadsIntoInit : Judged → ℕ → ℕ → ℕ → Type 0
 LeadsIntoInit j most k b = (c : ℕ) × (walk : List Step) × IsReason j b 0 (key_at j.history k) c walk × (length walk ≤ most)
 
--- one leads there from before the end
+-- such a link leads there from before the end
 abbrev pub IsIntoInit : Judged → ℕ → ℕ → ℕ → Type 0
 IsIntoInit j most end k = (b : ℕ) × (b < end) × LeadsIntoInit j most k b
 
--- and by one of these keys
+-- and does so by one of these keys
 abbrev pub HasIntoInit : Judged → ℕ → ℕ → List ℕ → Type 0
 HasIntoInit j most end key_indices = (n : ℕ) × (n < length key_indices) × IsIntoInit j most end (slice_index key_indices n)
 
--- none leads there by one of these keys from before low; and one from low itself, unless that is the end
+-- by these keys none leads there from before low; and one leads there from low itself, unless low is the end
 pub record IsLowestInto (j : Judged) (most : ℕ) (end : ℕ) (key_indices : List ℕ) (low : ℕ) : Type 0 where
   pub some : 0 < low
   pub within : low ≤ end

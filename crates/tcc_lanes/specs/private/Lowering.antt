@@ -8,17 +8,18 @@ use Rattle.tcc_graph.specs.declared.level.Level.TheVariants as level
 use Rattle.tcc_graph.specs.declared.step.Step.{Step}
 use Rattle.tcc_lanes.specs.declared.lengths.TheConstants.{NO_WALK}
 
--- how many steps lead to u to go on from there: none to where walks begin; and where all walks are of one step, none goes on from any other
+-- how many steps lead to u when a walk goes on from there: 0 where walks begin; where all walks have one step, no walk goes on from any
+-- other transaction
 abbrev pub steps_at : Level → ℕ → List ℕ → ℕ → ℕ
 steps_at level.Causal b lengths u = if u == b then 0 else slice_index lengths u
 steps_at level.Atomic b lengths u = if u == b then 0 else NO_WALK
 
--- the least of what some have, where one has anything
+-- the least of some values, where there are any
 pub record IsLeastOver (Is : ℕ → Type 0) (steps : ℕ → ℕ) (least : ℕ) : Type 0 where
   pub below : (u : ℕ) → Is u → least ≤ steps u
   pub some : (least ≡ NO_WALK) ⊎ ((u : ℕ) × Is u × (steps u ≡ least))
 
--- the fewest steps to a transaction before v in session order, by those of the number before
+-- the fewest steps to a transaction before v in session order, from those of the previous index
 abbrev pub least_on : Level → ℕ → List ℕ → List ℕ → ℕ → ℕ → ℕ
 least_on level b parents lengths run v =
     if v == 0 then NO_WALK
@@ -31,7 +32,7 @@ AreAttained j b most lengths =
     (v : ℕ) → v < count j.history → slice_index lengths v < NO_WALK
     → (walk : List Step) × IsAllowedWalk j b v walk × (length walk ≤ slice_index lengths v) × (slice_index lengths v ≤ most)
 
--- no length is greater than before, nor greater than a step more than led to where a pair begins
+-- no length is greater than before, and none exceeds by more than 1 the steps to where a pair that ends there begins
 pub record AreLowered (j : Judged) (b : ℕ) (most : ℕ) (old : List ℕ) (new : List ℕ) : Type 0 where
   pub same : length new ≡ length old
   pub kept : (v : ℕ) → slice_index new v ≤ slice_index old v

@@ -27,7 +27,7 @@ IsReadFrom h marks v i = (u : ℕ) × IsRead h u v × IsAt marks u i
 abbrev pub IsRun : History → List ℕ → ℕ → ℕ → Type 0
 IsRun h marks v word = (i : ℕ) → i < LANES → HasLane word i ↔ ((u : ℕ) × IsSessionPair h u v × IsAt marks u i)
 
--- the word of the lanes before v, by that of the number before
+-- the word of the lanes before v, from that of the previous index
 abbrev pub run_on : List ℕ → List ℕ → ℕ → ℕ → ℕ
 run_on parents marks run v =
     if v == 0 then 0

@@ -7,19 +7,19 @@ use Rattle.tcc_lanes.specs.Nearness.{IsClosing}
 use Rattle.tcc_lanes.specs.declared.pricing.TheConstants.{NONE}
 use Rattle.tcc_lanes.specs.private.Marks.{IsAt}
 
--- the last position from which one leads to the transaction at a place
+-- the last position from which one of these links leads to the transaction at a place
 abbrev pub last_at : List ℕ → List ℕ → ℕ → ℕ
 last_at order lasts place = slice_index lasts (slice_index order place)
 
--- the least price of one from the transaction at a place
+-- the least price of a link from the transaction at a place
 abbrev pub price_at : List ℕ → List ℕ → ℕ → ℕ
 price_at order prices place = slice_index prices (slice_index order place)
 
--- one of them leads back from behind a place to it or before it
+-- one of them leads back from after a place to it or before it
 abbrev pub IsCovered : List ℕ → List ℕ → ℕ → Type 0
 IsCovered order lasts place = (i : ℕ) × (i ≤ place) × (place < last_at order lasts i)
 
--- that was found of the first places
+-- the first places are marked that are covered
 pub record AreCovered (order : List ℕ) (lasts : List ℕ) (end : ℕ) (covered : List Bool) : Type 0 where
   pub long : length covered ≡ end
   pub each : (place : ℕ) → place < end → (slice_index_or covered place false ≡ true) ↔ IsCovered order lasts place
@@ -28,37 +28,37 @@ pub record AreCovered (order : List ℕ) (lasts : List ℕ) (end : ℕ) (covered
 abbrev pub AreAllCovered : List Bool → ℕ → ℕ → Type 0
 AreAllCovered covered from end = (at : ℕ) → from ≤ at → at < end → slice_index_or covered at false ≡ true
 
--- from a place before, where one ends, each place up to this one is covered
+-- one ends at an earlier place, from which each place up to this one is covered
 abbrev pub IsReachedOn : List ℕ → List ℕ → List Bool → ℕ → Type 0
 IsReachedOn order lasts covered place = (i : ℕ) × (i < place) × (0 < last_at order lasts i) × AreAllCovered covered i place
 
--- that was found of the first places
+-- the first places are marked that are reached
 pub record AreReachedOn (order : List ℕ) (lasts : List ℕ) (covered : List Bool) (end : ℕ) (reached : List Bool) : Type 0 where
   pub long : length reached ≡ end
   pub each : (place : ℕ) → place < end → (slice_index_or reached place false ≡ true) ↔ IsReachedOn order lasts covered place
 
--- one of them begins, at this price, at a place behind up to which each place is covered
+-- one of them begins at this price, at a later place up to which each place is covered
 abbrev pub IsBeyond : List ℕ → List ℕ → List Bool → ℕ → ℕ → Type 0
 IsBeyond order prices covered place price =
     (k : ℕ) × (place < k) × (k < length order) × AreAllCovered covered place k × (price_at order prices k ≡ price)
 
--- the least of such prices; where there is none, the one that stands for none
+-- the least of such prices, or `NONE` if there is none
 pub record IsLeastPrice (Is : ℕ → Type 0) (least : ℕ) : Type 0 where
   pub high : least ≤ NONE
   pub attained : (least ≡ NONE) ⊎ Is least
   pub lowest : (price : ℕ) → Is price → least ≤ price
 
--- of the places from one on the least such price
+-- the least such price for each place from one on
 pub record AreBeyond (order : List ℕ) (prices : List ℕ) (covered : List Bool) (from : ℕ) (beyond : List ℕ) : Type 0 where
   pub long : length beyond ≡ length order
   pub each : (place : ℕ) → from ≤ place → place < length order → IsLeastPrice (IsBeyond order prices covered place) (slice_index beyond place)
 
--- prices are those of transactions, and none is above the one that stands for none
+-- one price for each transaction, none above `NONE`
 pub record ArePricesOf (count : ℕ) (prices : List ℕ) : Type 0 where
   pub long : length prices ≡ count
   pub high : (b : ℕ) → b < count → slice_index prices b ≤ NONE
 
--- each of the first transactions where one ends is marked with the first lane, and no other is
+-- of the first transactions, those at which one ends are marked with the first lane, and no others are
 pub record AreEnds (lasts : List ℕ) (end : ℕ) (marks : List ℕ) : Type 0 where
   pub long : length marks ≡ end
   pub each : (v : ℕ) → v < end → IsAt marks v 0 ↔ (0 < slice_index lasts v)
@@ -67,12 +67,12 @@ pub record AreEnds (lasts : List ℕ) (end : ℕ) (marks : List ℕ) : Type 0 wh
 abbrev pub IsLedFromEnd : History → List ℕ → ℕ → Type 0
 IsLedFromEnd h lasts v = (u : ℕ) × IsCausalPair h u v × (0 < slice_index lasts u)
 
--- what leads to v from where one ends costs so much at least, where v stands at a place
+-- links that lead to v, which is at this place, from where one ends cost at least n
 abbrev pub IsComing : History → List ℕ → List ℕ → List Bool → ℕ → ℕ → ℕ → Type 0
 IsComing h order lasts covered place v n =
     ((0 < slice_index lasts v) × (n ≡ 0)) ⊎ ((IsLedFromEnd h lasts v × (n ≡ 1)) ⊎ (IsReachedOn order lasts covered place × (n ≡ 2)))
 
--- what leads on from v to where one begins, and that one, cost so much at least
+-- links that lead on from v to where one begins, with that one, cost at least n
 abbrev pub IsGoing : List ℕ → List ℕ → List Bool → ℕ → ℕ → ℕ → Type 0
 IsGoing order prices covered place v n =
     (slice_index prices v ≡ n) ⊎ ((price : ℕ) × IsBeyond order prices covered place price × (price + 1 ≡ n))
@@ -82,7 +82,7 @@ abbrev pub IsNearAt : History → List ℕ → List ℕ → List ℕ → List Bo
 IsNearAt h order prices lasts covered most place v =
     (m : ℕ) × (n : ℕ) × IsComing h order lasts covered place v m × IsGoing order prices covered place v n × (m + n < most)
 
--- those at the first places are marked that are near
+-- at the first places the marked transactions are those that are near
 pub record AreNearTo (h : History) (order : List ℕ) (prices : List ℕ) (lasts : List ℕ) (covered : List Bool) (most : ℕ) (end : ℕ) (marks : List Bool) : Type 0 where
   pub long : length marks ≡ count h
   pub each : (place : ℕ) → place < end

@@ -7,6 +7,6 @@ use Rattle.tcc_lanes.specs.declared.stretches.Stretch.{Stretch}
 abbrev pub prices_of : Stretch → List ℕ
 prices_of s = replicate s.columns s.price
 
--- of each column of these stretches
+-- the price of each column of these stretches
 abbrev pub prices_in : List Stretch → List ℕ
 prices_in stretches = flat_map prices_of stretches

@@ -15,7 +15,7 @@ IsUnderway level.Atomic starts reached v i = IsAt starts v i
 abbrev pub IsWalkedOn : History → Level → List ℕ → List ℕ → ℕ → ℕ → Type 0
 IsWalkedOn h level starts reached v i = (u : ℕ) × IsCausalPair h u v × IsUnderway level starts reached u i
 
--- the lanes that are underway at a transaction, by those that start and those that have come there
+-- the lanes that are underway at a transaction: those that start there, and those that have come there
 abbrev pub underway_at : Level → ℕ → ℕ → ℕ
 underway_at level.Causal starts reached = bit_or starts reached
 underway_at level.Atomic starts reached = starts

@@ -6,7 +6,7 @@ use Rattle.tcc_graph.specs.declared.step.Step.{Step}
 use Rattle.tcc_lanes.specs.declared.words.TheConstants.{LANES}
 use Rattle.tcc_lanes.specs.private.Marks.{IsAt}
 
--- a walk of so many steps at most, which the level allows, leads to v from where the lane begins
+-- a walk of at most `n` steps, which the level allows, leads to v from where the lane begins
 abbrev pub IsWalkedTo : Judged → List ℕ → ℕ → ℕ → ℕ → Type 0
 IsWalkedTo j begun most v i = (start : ℕ) × (walk : List Step) × IsAt begun start i × IsAllowedWalk j start v walk × (length walk ≤ most)
 

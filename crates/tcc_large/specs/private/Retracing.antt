@@ -1,4 +1,4 @@
--- What holds transactions back, and going back over it.
+-- What holds transactions back, and going back along it.
 use Rattle.std.specs.Prelude.{ℕ, ◌<◌, ◌+◌, ◌-◌, ◌≡◌, ◌⊎◌, List, length, slice_index}
 use Rattle.tcc_reads.specs.History.{count}
 use Rattle.tcc_graph.specs.Levels.{Judged, judged}
@@ -15,7 +15,7 @@ judged_at at = judged at.graph.now at.level
 abbrev pub IsStuckAt : StuckOrder → Type 0
 IsStuckAt at = IsStuck (judged_at at) at.stuck.now.kept.items at.stuck.now.placed.items
 
--- b has to stand before a, by a pair or by a derived link
+-- b has to come before a, by a pair or by a derived link
 abbrev pub IsHeldBack : Judged → ℕ → ℕ → Type 0
 IsHeldBack j b a = IsCausalPair j.history b a ⊎ IsDerivedPair j b a
 

@@ -1,5 +1,5 @@
-//! Shortest ways by pairs and links among some transactions: breadth-first search, backwards (`reverse_search`). A transaction that
-//! was met leads on to the one that it was met from. O(N + R + E) for N transactions, R reads and E links.
+//! Shortest ways by pairs and links among some transactions, by a breadth-first search backwards (`reverse_search`). A transaction that was
+//! met leads on to the one from which it was met. This takes O(N + R + E) for N transactions, R reads and E links.
 use crate::finder::pairs::Pairs;
 use crate::finder::reverse_search::ReverseSearch;
 use crate::finder::trimming::Trimmed;
@@ -20,8 +20,8 @@ impl BreadthFirst {
         Ok(BreadthFirst { reverse })
     }
 
-    /// The transactions of a shortest way from one to another among those that are marked, both with it; none where there is
-    /// none of so many pairs and links at most.
+    /// The transactions of a shortest way from one to another among those that are marked, including both; none where there is none of at
+    /// most `most` pairs and links.
     pub(crate) fn way(
         &mut self,
         alloc: Global,
@@ -52,7 +52,7 @@ impl BreadthFirst {
         Ok(())
     }
 
-    /// Takes in all that lead to a transaction by one pair or link.
+    /// Takes in all transactions that lead to another by one pair or link.
     fn look(
         &mut self,
         work: &mut Work,
@@ -77,7 +77,7 @@ impl BreadthFirst {
         Ok(())
     }
 
-    /// From a transaction on to where the search began, over so many at most.
+    /// The way from a transaction on to where the search began, over at most `count` transactions.
     fn trail(&self, alloc: Global, count: u32, start: u32) -> Result<Vec<u32>, AllocError> {
         let mut trail = Vec::new(alloc);
         let mut number = start;

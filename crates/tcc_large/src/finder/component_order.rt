@@ -1,6 +1,6 @@
-//! An order of all transactions to judge by that a cycle is a least one: a topological order of the condensation, component by
-//! component (`components`), each in an order that keeps all pairs (`kahn`). So what leads back in it are links within one
-//! component alone. It is trusted by nobody, and takes O(N + R + E) for N transactions, R reads and E links.
+//! An order of all transactions to judge by that a cycle is a least one. It is a topological order of the condensation, component by
+//! component (`components`), each in an order that keeps all pairs (`kahn`). So only links within one component lead back in it. The order
+//! need not be trusted, and takes O(N + R + E) for N transactions, R reads and E links.
 use crate::finder::adjacency::Adjacency;
 use crate::finder::components::Components;
 use crate::finder::kahn::Kahn;
@@ -29,7 +29,7 @@ fn add_component(
     Ok(())
 }
 
-/// The numbers of all transactions, that of `init` first, in an order that keeps all pairs; none where pairs have a circle.
+/// The numbers of all transactions, that of `init` first, in an order that keeps all pairs; none where pairs form a cycle.
 pub(crate) fn order_to_judge(
     alloc: Global,
     graph: &LargeGraph,

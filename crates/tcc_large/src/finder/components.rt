@@ -1,24 +1,24 @@
-//! Strongly connected components of the pairs and of further links, by Kosaraju and Sharir (Sharir, A strong-connectivity algorithm
-//! and its applications in data flow analysis, 1981): what a search in depth forwards leaves last begins the next component, and
-//! the rest of it is what a search backwards from there comes to. So between two components pairs and links lead onward. It goes
-//! over each pair and link twice: O(N + R + E) for N transactions, R reads and E links.
+//! Strongly connected components of the pairs and of further links, by Kosaraju and Sharir (Sharir, A strong-connectivity algorithm and its
+//! applications in data flow analysis, 1981). The transaction that a depth-first search forwards leaves last begins the next component. The
+//! rest of it is what a search backwards from there comes to. So between two components pairs and links lead onward. It goes over each pair
+//! and link twice: O(N + R + E) for N transactions, R reads and E links.
 use crate::cells::Cells;
 use crate::finder::adjacency::{Adjacency, Side};
 use std::alloc::Global;
 use tcc_txn::NoMemory;
 
-/// What is left to do in a search in depth: to go into a transaction, or to leave it.
+/// What is left to do in a depth-first search: to go into a transaction, or to leave it.
 #[derive(Clone, Copy)]
-enum Turn {
+enum Visit {
     Into(u32),
     OutOf(u32),
 }
 
-/// A search in depth forwards: which transactions were seen, and in which order they were left.
+/// A depth-first search forwards: which transactions were seen, and in which order they were left.
 #[derive(Drop)]
 struct Search {
     seen: Cells,
-    turns: Vec<Turn>,
+    turns: Vec<Visit>,
     left: Vec<u32>,
     neighbours: Vec<u32>,
 }
@@ -36,17 +36,17 @@ impl Search {
         })
     }
 
-    /// Goes into a transaction, if it wasn't seen: what stands right behind it comes next.
+    /// Goes into a transaction, if it wasn't seen: those directly after it come next.
     fn enter(&mut self, adjacency: &Adjacency<'_>, number: u32) -> Result<(), NoMemory> {
         if self.seen.get(number) != 0 {
             return Ok(());
         }
         self.seen.set(number, 1);
-        self.turns.push(Turn::OutOf(number))?;
+        self.turns.push(Visit::OutOf(number))?;
         adjacency.find_neighbours(&mut self.neighbours, number, Side::Behind)?;
         for next in &self.neighbours {
             if self.seen.get(*next) == 0 {
-                self.turns.push(Turn::Into(*next))?;
+                self.turns.push(Visit::Into(*next))?;
             }
         }
         Ok(())
@@ -57,8 +57,8 @@ impl Search {
         self.enter(adjacency, start)?;
         for _turn in 0..u64::MAX {
             match self.turns.pop() {
-                Some(Turn::Into(number)) => self.enter(adjacency, number)?,
-                Some(Turn::OutOf(number)) => self.left.push(number)?,
+                Some(Visit::Into(number)) => self.enter(adjacency, number)?,
+                Some(Visit::OutOf(number)) => self.left.push(number)?,
                 None => break,
             }
         }
@@ -66,7 +66,7 @@ impl Search {
     }
 }
 
-/// All transactions but `init` in the order in which a search in depth forwards leaves them.
+/// All transactions but `init` in the order in which a depth-first search forwards leaves them.
 fn left_one_by_one(alloc: Global, adjacency: &Adjacency<'_>) -> Result<Vec<u32>, NoMemory> {
     let mut search = Search::new(alloc, adjacency.pairs().count())?;
     for start in 1..adjacency.pairs().count() {
@@ -75,8 +75,8 @@ fn left_one_by_one(alloc: Global, adjacency: &Adjacency<'_>) -> Result<Vec<u32>,
     Ok(search.left)
 }
 
-/// All transactions but `init`, component by component, where each component begins among them, and of each transaction the number of
-/// its component, from 1 on.
+/// All transactions but `init`, component by component, where each component begins among them, and for each transaction the number of its
+/// component, from 1 on.
 #[derive(Drop)]
 pub(crate) struct Components {
     members: Vec<u32>,
@@ -121,7 +121,7 @@ impl Components {
         Ok(())
     }
 
-    /// Takes those of some transactions that are in no component into the last one.
+    /// Takes the transactions of these that are in no component into the last one.
     fn take_each(&mut self, numbers: &[u32]) -> Result<(), NoMemory> {
         for number in numbers {
             self.take(*number)?;
@@ -156,7 +156,7 @@ impl Components {
         }
     }
 
-    /// Of each transaction the number of its component, from 1 on.
+    /// For each transaction the number of its component, from 1 on.
     pub(crate) fn numbers(&self) -> &Cells {
         &self.numbers
     }

@@ -1,4 +1,4 @@
-//! From transactions in a circle to the links between them: of each two a pair where there is one, else a derived link with a
+//! From transactions in a circle to the links between them. Between each two it is a pair where there is one, else a derived link with a
 //! shortest walk, which takes a search (`shortest_walks`).
 use crate::finder::pairs::Pairs;
 use crate::finder::shortest_walks::{ShortestWalks, Sought};
@@ -14,7 +14,7 @@ pub(crate) struct Linker {
     walks: ShortestWalks,
 }
 
-/// The number behind an index of a circle.
+/// The number after an index of a circle.
 fn following(circle: &[u32], index: usize) -> Option<u32> {
     match circle.get(index.saturating_add(1)) {
         Some(next) => Some(*next),
@@ -75,7 +75,7 @@ fn step(pairs: &Pairs<'_>, from: u32, to: u32) -> Option<Step> {
     Some(Step::Reads { from, to, key })
 }
 
-/// The key that is beside a reader.
+/// The key that is listed beside a reader.
 fn key_of(pairs: &Pairs<'_>, readers: &[(u32, u32)], wanted: u32) -> Option<Name> {
     for (reader, key_index) in readers {
         if *reader == wanted {
@@ -100,7 +100,7 @@ fn derived_by(pairs: &Pairs<'_>, walk: Walk, to: u32, readers: &[(u32, u32)]) ->
 }
 
 impl Linker {
-    /// For a history at a level.
+    /// A finder for a history at a level.
     pub(crate) fn new(alloc: Global, pairs: &Pairs<'_>, level: Level) -> Result<Linker, NoMemory> {
         let longest = match level {
             Level::Atomic => 1,
@@ -110,8 +110,8 @@ impl Linker {
         Ok(Linker { longest, walks })
     }
 
-    /// A derived link to a transaction from one of these writers of what the readers read from it, by a shortest walk; none where it
-    /// costs more than so many steps.
+    /// A derived link to a transaction from one of these writers of what the readers read from it, by a shortest walk; none where it costs
+    /// more than `most` steps.
     pub(crate) fn derived(
         &mut self,
         alloc: Global,
@@ -137,7 +137,7 @@ impl Linker {
         }
     }
 
-    /// The link from one transaction to another, where it costs so many steps at most.
+    /// The link from one transaction to another, where it costs at most `most` steps.
     pub(crate) fn link(
         &mut self,
         alloc: Global,
@@ -154,8 +154,7 @@ impl Linker {
         self.derived(alloc, work, pairs, &[from], to, &readers, most)
     }
 
-    /// The links along a circle, where together they cost less than so many steps; none where two that follow each other have
-    /// none.
+    /// The links along a circle, where together they cost less than `below` steps; none where two neighbours have none.
     pub(crate) fn links(
         &mut self,
         alloc: Global,
@@ -166,7 +165,7 @@ impl Linker {
     ) -> Result<Option<Vec<Link>>, SearchError> {
         let circle = without_runs(alloc, pairs, circle)?;
         let mut links = Vec::new(alloc);
-        // each link that is not there yet costs a step at least
+        // each link that is not there yet costs at least one step
         let mut most = below.saturating_sub(circle.len());
         for (index, from) in circle.iter().enumerate() {
             let Some(to) = following(&circle, index) else {

@@ -1,13 +1,13 @@
-//! A search for a short cycle, by the links that an order kept until it stopped. What it finds is trusted by nobody, and not always
-//! the least. With N transactions, R reads and E kept links it takes O(N + R + E) steps: what goes over all goes over all once, and
-//! each search stops at a limit of work.
+//! A search for a short cycle, by the links that an order kept until it stopped. What it finds need not be trusted, and is not always a
+//! least one. With N transactions, R reads and E kept links it takes O(N + R + E) steps. The passes over all transactions go over them
+//! once, and each search stops at a limit of work.
 use crate::finder::adjacency::Adjacency;
 use crate::finder::back_edges::back_edges;
 use crate::finder::breadth_first::BreadthFirst;
-use crate::finder::closings::{between, closings};
 use crate::finder::cycle_links::Linker;
 use crate::finder::pairs::{Pair, Pairs, span};
 use crate::finder::trimming::Trimmed;
+use crate::finder::two_step_back_links::{between, closings};
 use crate::finder::work::{SearchError, Work, unless_spent};
 use std::alloc::{AllocError, Global};
 use tcc_bits::Row;
@@ -15,21 +15,21 @@ use tcc_graph::{LargeGraph, Level, Link};
 use tcc_order::Stuck;
 use tcc_txn::NoMemory;
 
-/// So many links are tried, at most, of each kind.
+/// At most this many links of each kind are tried.
 const TRIES: usize = 64;
 
-/// So many transactions of a cycle are looked at, at most, whether it is cheaper without them.
+/// At most this many transactions of a cycle are checked for whether it is cheaper without them.
 const SHORTCUTS: usize = 256;
 
-/// A search may look at so much, and at so much more for each transaction and read.
+/// A search may look at this much, and at `WORK_EACH` more for each transaction and read.
 const WORK: u64 = 1 << 21;
 
 const WORK_EACH: u64 = 4;
 
-/// No cheaper cycle is looked for here than one of so many steps.
+/// The search ends at a cycle of this many steps: cheaper ones are not looked for here.
 const CHEAP: usize = 4;
 
-/// The cheapest links so far, and how many steps others have to stay below.
+/// The cheapest links so far, and the number of steps below which others have to stay.
 #[derive(Drop)]
 struct Cheapest {
     links: Option<Vec<Link>>,
@@ -66,7 +66,7 @@ struct Finder<'a> {
     cheapest: Cheapest,
 }
 
-/// One of so many, so that no more than `TRIES` are taken.
+/// Whether this one of `count` is tried, so that no more than `TRIES` are.
 fn is_tried(index: usize, count: usize) -> bool {
     index % (count / TRIES + 1) == 0
 }
@@ -90,7 +90,7 @@ fn starts(alloc: Global, links: &[Link]) -> Result<Vec<u32>, AllocError> {
     Ok(found)
 }
 
-/// The index behind one of so many, of which the first is behind the last.
+/// The index after one of `count`, of which the first comes after the last.
 fn following(count: usize, index: usize) -> usize {
     let next = index.saturating_add(1);
     if next < count { next } else { 0 }
@@ -132,7 +132,7 @@ impl<'a> Finder<'a> {
         self.cheapest.below > CHEAP
     }
 
-    /// The links along transactions that stand in a circle.
+    /// The links along transactions that form a circle.
     fn along(&mut self, alloc: Global, circle: &[u32]) -> Result<(), SearchError> {
         let below = self.cheapest.below;
         let links = self
@@ -290,8 +290,8 @@ impl<'a> Finder<'a> {
         Ok(())
     }
 
-    /// Leaves the transaction behind a link of the cheapest cycle out, where a link past it costs less than the two that lead
-    /// through it, and says whether it was so.
+    /// Leaves out the transaction after a link of the cheapest cycle, where a link past it costs less than the two that lead through it,
+    /// and returns whether it did so.
     fn shortcut(&mut self, alloc: Global, index: usize) -> Result<bool, SearchError> {
         let Some(links) = &self.cheapest.links else {
             return Ok(false);
@@ -359,7 +359,7 @@ impl<'a> Finder<'a> {
         Ok(())
     }
 
-    /// Cycles of pairs and kept links, where pairs alone are in no circle.
+    /// Cycles of pairs and kept links, where pairs alone form no cycle.
     fn by_links(&mut self, alloc: Global, stuck: &Stuck) -> Result<(), NoMemory> {
         let adjacency = Adjacency::of(alloc, self.pairs, &stuck.kept)?;
         self.allow();
@@ -371,7 +371,7 @@ impl<'a> Finder<'a> {
         Ok(())
     }
 
-    /// Cycles of pairs, and where there are none others. At `Causal` no link was kept if there are some.
+    /// Cycles of pairs, and others where there are none. At `Causal` no link was kept if there are some.
     fn find(&mut self, alloc: Global, level: Level, stuck: &Stuck) -> Result<(), NoMemory> {
         let has_links = has_links(&stuck.kept);
         if level == Level::Atomic || !has_links {
@@ -384,9 +384,9 @@ impl<'a> Finder<'a> {
     }
 }
 
-/// The links of a short cycle of a history at a level in which an order stops, where no cycle costs less than four steps; not
-/// always of a least one, and none where none was found. A cycle of pairs is looked for first. Else it is the cheapest of those
-/// through `init`, of a pair and a link, and of shortest ones, by links, through some that lead back in an order of all pairs.
+/// The links of a short cycle of a history at a level in which an order stops, where no cycle costs less than four steps. It is not always
+/// a least one, and there is none where none was found. A cycle of pairs is looked for first. Else it is the cheapest of three kinds: those
+/// through `init`, those of a pair and a link, and shortest ones, by links, through some that lead back in an order of all pairs.
 pub(crate) fn found_cycle(
     alloc: Global,
     graph: &LargeGraph,

@@ -1,14 +1,14 @@
-//! Kahn's algorithm (Kahn, Topological sorting of large networks, CACM 5, 1962), group by group: an order of transactions that
-//! keeps all pairs, and links as far as they go. Each counts the pairs and the links of its group that it waits for; one that waits
-//! for links alone is put next where nothing else can be. Each pair and link is looked at twice: O(N + R + E) for N transactions, R
-//! reads and E links.
+//! Kahn's algorithm (Kahn, Topological sorting of large networks, CACM 5, 1962), group by group. It makes an order of transactions that
+//! keeps all pairs, and links as far as possible. Each transaction counts the pairs and the links of its group that it waits for. One that
+//! waits only for links comes next where nothing else can. Each pair and link is looked at twice: O(N + R + E) for N transactions, R reads
+//! and E links.
 use crate::cells::Cells;
 use crate::finder::adjacency::Adjacency;
 use std::alloc::{AllocError, Global};
 use tcc_txn::NoMemory;
 
-/// Such an order as far as it was made: how many pairs and links of its own group each transaction waits for, which are placed, which
-/// wait for nothing, and which for links alone.
+/// Such an order as far as it was made: how many pairs and links of its own group each transaction waits for, which are placed, which wait
+/// for nothing, and which only for links.
 #[derive(Drop)]
 pub(crate) struct Kahn<'a> {
     adjacency: &'a Adjacency<'a>,
@@ -22,7 +22,7 @@ pub(crate) struct Kahn<'a> {
 }
 
 impl<'a> Kahn<'a> {
-    /// Nothing is placed yet, nor open. Of each transaction the number of its group is given, 0 where it has none.
+    /// Nothing is placed yet, nor open. For each transaction the number of its group is given, 0 where it has none.
     pub(crate) fn new(
         alloc: Global,
         adjacency: &'a Adjacency<'a>,
@@ -69,7 +69,7 @@ impl<'a> Kahn<'a> {
         }
     }
 
-    /// Takes a transaction in that waits for no pair, and for no link or for some.
+    /// Takes in a transaction that waits for no pair, whether or not it waits for links.
     pub(crate) fn open(&mut self, number: u32) -> Result<(), AllocError> {
         if self.pairs.get(number) == 0 && self.placed.get(number) == 0 {
             if self.links.get(number) == 0 {
@@ -81,7 +81,7 @@ impl<'a> Kahn<'a> {
         Ok(())
     }
 
-    /// One that is open, and perhaps placed: one that waits for nothing, or else the first that waits for links alone.
+    /// One that is open, and perhaps placed: one that waits for nothing, or else the first that waits only for links.
     fn one(&mut self) -> Option<u32> {
         if let Some(number) = self.free.pop() {
             return Some(number);

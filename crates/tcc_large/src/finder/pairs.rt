@@ -1,11 +1,11 @@
-//! The pairs of a history: what its graph says of any number, and of one past the last nothing; and where the numbers of each
-//! session stand.
+//! The pairs of a history: what its graph has for any number, and nothing for a number past the last; and where the numbers of each session
+//! are.
 use crate::cells::Cells;
 use std::alloc::Global;
 use tcc_graph::LargeGraph;
 use tcc_txn::{Name, NoMemory};
 
-/// What a pair is by.
+/// The kind of a pair.
 #[derive(Clone, Copy)]
 pub(crate) enum Pair {
     Session,
@@ -22,7 +22,7 @@ pub(crate) struct Pairs<'a> {
     ends: Cells,
 }
 
-/// Of numbers that ascend, those from `low` to below `high`.
+/// Of ascending numbers, those from `low` to below `high`.
 pub(crate) fn span(numbers: &[u32], low: u32, high: u32) -> &[u32] {
     let start = numbers.partition_point(|number| *number < low);
     let end = numbers.partition_point(|number| *number < high);
@@ -107,7 +107,7 @@ impl<'a> Pairs<'a> {
         }
     }
 
-    /// Whether one transaction stands before the other in session order.
+    /// Whether one transaction comes before the other in session order.
     pub(crate) fn is_session(&self, from: u32, to: u32) -> bool {
         from < self.graph.count() && to < self.graph.count() && self.graph.session(from, to)
     }
@@ -120,7 +120,7 @@ impl<'a> Pairs<'a> {
         }
     }
 
-    /// Of those behind a transaction in session order the first, and one past the last.
+    /// The first of those after a transaction in session order, and one past the last.
     pub(crate) fn later(&self, number: u32) -> (u32, u32) {
         if number < self.graph.count() {
             self.graph.later(number)
@@ -129,7 +129,7 @@ impl<'a> Pairs<'a> {
         }
     }
 
-    /// Who reads from a transaction, and beside each the index of the key.
+    /// The readers from a transaction, and beside each the index of the key.
     pub(crate) fn readings(&self, source: u32) -> (&'a [u32], &'a [u32]) {
         if source < self.graph.count() {
             self.graph.readings_at(source)
@@ -138,7 +138,7 @@ impl<'a> Pairs<'a> {
         }
     }
 
-    /// Who reads the key at an index from a transaction.
+    /// The readers of the key at an index from a transaction.
     pub(crate) fn readers(&self, source: u32, key_index: u32) -> &'a [u32] {
         if (key_index as usize) >= self.graph.keys().len() {
             return &[];
@@ -180,7 +180,7 @@ impl<'a> Pairs<'a> {
         }
     }
 
-    /// Who writes the key at an index.
+    /// The writers of the key at an index.
     pub(crate) fn writers(&self, key_index: u32) -> &'a [u32] {
         if (key_index as usize) < self.graph.keys().len() {
             self.graph.writers_at(key_index)

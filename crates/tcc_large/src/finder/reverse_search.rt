@@ -1,15 +1,14 @@
-//! Breadth-first search (Moore, The shortest path through a maze, 1959) backwards, level by level: what was met, and where each
-//! leads on to. Each transaction is taken in once, and of a session those alone that weren't taken in before (`session_prefixes`),
-//! so a search takes O(N + R + E) for the N transactions, R reads and E links that it comes to, and nothing for those that it
-//! doesn't.
+//! Breadth-first search (Moore, The shortest path through a maze, 1959) backwards, level by level: what was met, and where each leads on
+//! to. Each transaction is taken in once, and of a session only those that weren't taken in before (`session_prefixes`). So a search takes
+//! O(N + R + E) for the N transactions, R reads and E links that it comes to, and nothing for those that it doesn't.
 use crate::cells::Cells;
 use crate::finder::pairs::Pairs;
 use crate::finder::session_prefixes::SessionPrefixes;
 use std::alloc::{AllocError, Global};
 use tcc_txn::NoMemory;
 
-/// What a search backwards has met, and where each transaction leads on to. It serves for many searches, of which each has a
-/// turn of its own, and a depth that it doesn't go past.
+/// What a search backwards has met, and where each transaction leads on to. It serves many searches, each with a turn of its own, and a
+/// depth beyond which it doesn't go.
 #[derive(Drop)]
 pub(crate) struct ReverseSearch {
     turn: u32,
@@ -40,7 +39,7 @@ impl ReverseSearch {
         })
     }
 
-    /// Begins the next search, which comes so far at most.
+    /// Begins the next search, of at most this depth.
     pub(crate) fn begin(&mut self, most: usize) {
         self.turn = self.turn.saturating_add(1);
         self.queue.clear();
@@ -50,7 +49,7 @@ impl ReverseSearch {
         self.most = most;
     }
 
-    /// Takes in a transaction that leads on to the next one, and says whether it wasn't met before.
+    /// Takes in a transaction that leads on to the next one, and returns whether it wasn't met before.
     pub(crate) fn meet(&mut self, number: u32, next: u32) -> Result<bool, AllocError> {
         if self.is_met(number) {
             return Ok(false);
@@ -80,7 +79,7 @@ impl ReverseSearch {
         Some(number)
     }
 
-    /// Whether those that lead to the transaction that was taken last are as far as the search comes.
+    /// Whether those that lead to the transaction that was taken last are at the greatest depth of the search.
     pub(crate) fn is_last(&self) -> bool {
         self.depth == self.most
     }
@@ -90,7 +89,7 @@ impl ReverseSearch {
         self.next.get(number)
     }
 
-    /// From which number on those before this one in its session weren't taken in yet; from now on they are.
+    /// The number from which on those before this one in its session weren't taken in yet; they count as taken in from now on.
     pub(crate) fn cover(&mut self, pairs: &Pairs<'_>, number: u32) -> u32 {
         self.prefixes.take(pairs, number, self.turn)
     }

@@ -1,11 +1,11 @@
-//! Which transactions of each session a search backwards has taken in: a prefix of the session, since all before one stand before
-//! it. So each is handed out once in a search, and to begin the next one takes nothing.
+//! Which transactions of each session a search backwards has taken in: a prefix of the session, since all earlier ones come before. So each
+//! is returned once in a search, and the next search needs no preparation.
 use crate::cells::Cells;
 use crate::finder::pairs::Pairs;
 use std::alloc::Global;
 use tcc_txn::NoMemory;
 
-/// Of each session the number below which nothing was taken in yet; for many searches, of which each has a turn of its own.
+/// For each session the number below which all were taken in; it serves many searches, each with a turn of its own.
 #[derive(Drop)]
 pub(crate) struct SessionPrefixes {
     turns: Cells,
@@ -13,7 +13,7 @@ pub(crate) struct SessionPrefixes {
 }
 
 impl SessionPrefixes {
-    /// For so many sessions, before the first search.
+    /// For this many sessions, before the first search.
     pub(crate) fn new(alloc: Global, sessions: usize) -> Result<SessionPrefixes, NoMemory> {
         Ok(SessionPrefixes {
             turns: Cells::new(alloc, sessions, 0)?,
@@ -21,7 +21,7 @@ impl SessionPrefixes {
         })
     }
 
-    /// From which number on those before this one in its session weren't taken in yet; from now on they are.
+    /// The number from which on those before this one in its session weren't taken in yet; they count as taken in from now on.
     pub(crate) fn take(&mut self, pairs: &Pairs<'_>, number: u32, turn: u32) -> u32 {
         let owner = pairs.owner(number);
         let mut low = pairs.first(owner);

@@ -1,5 +1,5 @@
-//! Shortest walks: breadth-first search by pairs, backwards (`reverse_search`), from some ends to the nearest of some starts. Each
-//! transaction that was met has the pair that it leads on by, so the steps are read off from the start on. O(N + R) for N
+//! Shortest walks by pairs, from the nearest of some starts to some ends, by a breadth-first search backwards (`reverse_search`). For each
+//! transaction that was met the pair by which it leads on is kept, so the steps are read off from the start on. This takes O(N + R) for N
 //! transactions and R reads.
 use crate::cells::Cells;
 use crate::finder::pairs::{Pairs, span};
@@ -9,10 +9,10 @@ use std::alloc::{AllocError, Global};
 use tcc_graph::Step;
 use tcc_txn::NoMemory;
 
-/// By a session pair, where other steps have the index of a key.
+/// A step by a session pair; other steps have the index of a key here.
 const BY_SESSION: u32 = u32::MAX;
 
-/// What walk is looked for.
+/// Which walk is looked for.
 #[derive(Clone, Copy)]
 pub(crate) struct Sought<'a> {
     /// Where it may begin, in ascending order.
@@ -23,7 +23,7 @@ pub(crate) struct Sought<'a> {
     pub most: usize,
 }
 
-/// Searches backwards by pairs, with what each transaction leads on by.
+/// Searches backwards by pairs, with the pair by which each transaction leads on.
 #[derive(Drop)]
 pub(crate) struct ShortestWalks {
     reverse: ReverseSearch,
@@ -71,7 +71,7 @@ impl ShortestWalks {
         Ok(())
     }
 
-    /// Looks at all that lead to a transaction by one step: a wanted one and the step; or else they are taken in, unless these
+    /// Looks at all transactions that lead to one by one step. It returns a wanted one and the step; or else it takes them in, unless these
     /// are the last.
     fn search(
         &mut self,
@@ -96,8 +96,8 @@ impl ShortestWalks {
         Ok(None)
     }
 
-    /// Looks at those before a transaction in its session, as far as they weren't taken in for a later one: a wanted one; or else
-    /// they are taken in, unless these are the last.
+    /// Looks at those before a transaction in its session, as far as they weren't taken in for a later one. It returns a wanted one; or
+    /// else it takes them in, unless these are the last.
     fn search_session(
         &mut self,
         work: &mut Work,

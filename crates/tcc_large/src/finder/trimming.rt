@@ -1,6 +1,6 @@
-//! Trimming (McLendon et al., Finding strongly connected components in distributed graphs, 2005): of a graph what stands in a
-//! circle, or between two. What has no neighbour that is left, on one side and then on the other, is taken away again and again;
-//! each pair and link is looked at twice for a side: O(N + R + E) for N transactions, R reads and E links.
+//! Trimming (McLendon et al., Finding strongly connected components in distributed graphs, 2005): the part of a graph that is in a cycle,
+//! or between two. What has no remaining neighbour on one side, and then on the other, is removed again and again. Each pair and link is
+//! looked at twice for a side: O(N + R + E) for N transactions, R reads and E links.
 use crate::cells::Cells;
 use crate::finder::adjacency::{Adjacency, Side};
 use crate::finder::pairs::{Pair, Pairs};
@@ -16,7 +16,7 @@ pub(crate) struct Trimmed<'a> {
 }
 
 impl<'a> Trimmed<'a> {
-    /// Marks of those that an order left, but `init`, each that a marked one leads to and that leads to a marked one.
+    /// Marks the transactions that an order left, except `init`, to which a marked one leads and which lead to a marked one.
     pub(crate) fn of(
         alloc: Global,
         adjacency: &'a Adjacency<'a>,
@@ -44,7 +44,7 @@ impl<'a> Trimmed<'a> {
         self.adjacency.pairs()
     }
 
-    /// Of each transaction 1 where it is marked, else 0.
+    /// For each transaction 1 where it is marked, else 0.
     pub(crate) fn marks(&self) -> &Cells {
         &self.marked
     }
@@ -54,7 +54,7 @@ impl<'a> Trimmed<'a> {
         self.marked.get(number) != 0
     }
 
-    /// Marks no more what has no marked one on this side, again and again.
+    /// Unmarks what has no marked one on this side, again and again.
     fn trim(&mut self, alloc: Global, side: Side) -> Result<(), NoMemory> {
         let mut neighbours = Vec::new(alloc);
         let mut degrees = self.degrees(alloc, side)?;
@@ -107,7 +107,7 @@ impl<'a> Trimmed<'a> {
         Ok(found)
     }
 
-    /// Each of these, if it is marked, has one less; where that was the last, it goes too.
+    /// Each of these, if it is marked, has one less; where that was the last, it is unmarked too.
     fn let_go(
         &self,
         degrees: &mut Cells,

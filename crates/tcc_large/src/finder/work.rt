@@ -5,11 +5,11 @@ use tcc_txn::NoMemory;
 #[derive(Drop)]
 pub(crate) enum SearchError {
     Memory(NoMemory),
-    /// All work that was allowed was done.
+    /// All allowed work was done.
     OutOfWork,
 }
 
-/// Whatever says that memory is out.
+/// Any error that says that memory ran out.
 impl<E: Into<NoMemory>> From<E> for SearchError {
     fn from(fault: E) -> SearchError {
         SearchError::Memory(fault.into())
@@ -23,12 +23,12 @@ pub(crate) struct Work {
 }
 
 impl Work {
-    /// So much is allowed.
+    /// This much is allowed.
     pub(crate) fn new(left: u64) -> Work {
         Work { left }
     }
 
-    /// Takes so much.
+    /// Takes this much.
     pub(crate) fn take(&mut self, much: usize) -> Result<(), SearchError> {
         match self.left.checked_sub(much as u64) {
             Some(left) => {
@@ -43,7 +43,7 @@ impl Work {
     }
 }
 
-/// What is found so far stands where the work was spent.
+/// What was found so far counts where the allowed work was done.
 pub(crate) fn unless_spent(searched: Result<(), SearchError>) -> Result<(), NoMemory> {
     match searched {
         Ok(()) | Err(SearchError::OutOfWork) => Ok(()),

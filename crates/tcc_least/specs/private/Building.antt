@@ -1,4 +1,4 @@
--- What the links of short cycles are made of.
+-- The parts of which the links of short cycles are made.
 use Rattle.std.specs.Prelude.{ℕ, ◌<◌, List}
 use Rattle.tcc_reads.specs.History.{History}
 use Rattle.tcc_graph.specs.Relations.{IsCausalPair}
@@ -13,6 +13,6 @@ use Rattle.tcc_graph.specs.declared.link.Link.{Link}
 abbrev pub Overwrites : History → ℕ → ℕ → List ℕ → Type 0
 Overwrites h b c x = IsWriter h b x × IsCausalPair h b c
 
--- at each level a cycle that costs less than n
+-- a cycle that costs less than n, at each level
 abbrev pub IsShortCycle : History → ℕ → List Link → Type 0
 IsShortCycle h n links = ((level : Level) → (s : ℕ) × IsCycle (judged h level) s links) × (cost links < n)

@@ -1,9 +1,9 @@
--- Places that were looked at, and the least of those that were found.
+-- Places that were examined, and the least of those that were found.
 use Rattle.std.specs.Prelude.{ℕ, ◌<◌, ◌≤◌, ◌≡◌, ◌⊎◌, Option, MatchOption}
 use Rattle.tcc_reads.specs.History.{History}
 use Rattle.tcc_least.specs.Shapes.{IsReturn}
 
--- the place stands before (k, l), or is it
+-- the place is before (k, l), or is it
 abbrev pub IsUpTo : ℕ × ℕ → ℕ → ℕ → Type 0
 IsUpTo place k l = (place.0 < k) ⊎ ((place.0 ≡ k) × (place.1 ≤ l))
 
@@ -11,7 +11,7 @@ IsUpTo place k l = (place.0 < k) ⊎ ((place.0 ≡ k) × (place.1 ≤ l))
 abbrev pub IsFoundUpTo : Option (ℕ × ℕ) → ℕ → ℕ → Type 0
 IsFoundUpTo best k l = MatchOption best ⊥ (λ place. IsUpTo place k l)
 
--- what was found is one
+-- what was found is a return
 abbrev pub IsSound : History → Option (ℕ × ℕ) → Type 0
 IsSound h best = MatchOption best (Unit {0}) (λ place. IsReturn h place.0 place.1)
 

@@ -22,11 +22,11 @@ pub record IsSession (h : History) (first : ℕ) (end : ℕ) : Type 0 where
   pub after : (u : ℕ) (v : ℕ) → first ≤ u → u < end → IsSessionPair h u v ↔ ((u < v) × (v < end))
   pub before : (u : ℕ) (v : ℕ) → 0 < u → first ≤ v → v < end → IsSessionPair h u v ↔ ((first ≤ u) × (u < v))
 
--- b, another writer of x, stands between a and a reader c in session order
+-- b, another writer of x, is between a and a reader c in session order
 abbrev pub IsWriterBetween : History → ℕ → List ℕ → ℕ → ℕ → Type 0
 IsWriterBetween h a x c b = (0 < b) × IsWriter h b x × IsSessionPair h a b × IsSessionPair h b c
 
--- c reads some key from a, and b, another writer of it, stands between them in session order
+-- c reads some key from a, and b, another writer of it, is between them in session order
 abbrev pub IsBetween : History → ℕ → ℕ → ℕ → Type 0
 IsBetween h c b a = (0 < b) × ((x : List ℕ) × MayContradict h b a x c) × IsSessionPair h b c × IsSessionPair h a b
 

@@ -1,4 +1,4 @@
--- The search breadth first: what is known after walks of so many steps.
+-- The breadth-first search: what is known after walks of n steps.
 use Rattle.std.specs.Prelude.{ℕ, ◌+◌, ◌<◌, ◌≤◌, ◌≡◌, ◌≢◌, ◌⊎◌, ◌↔◌, ◌==◌, ◌&&◌, Bool, true, false, if◌then◌else◌, List, length, Contains}
 use Rattle.std.specs.Prelude.{[], count_by, Option, None, Some, slice_index, slice_index_or}
 use Rattle.tcc_reads.specs.History.{History, count}
@@ -22,7 +22,7 @@ pub record IsSessionEnd (h : History) (u : ℕ) (end : ℕ) : Type 0 where
   pub few : end ≤ count h
   pub pairs : (v : ℕ) → IsSessionPair h u v ↔ ((u + 1 ≤ v) × (v < end))
 
--- of each transaction where the numbers end that session pairs lead to
+-- for each transaction the end of the numbers that session pairs lead to
 pub record AreEnds (h : History) (ends : List ℕ) : Type 0 where
   pub long : length ends ≡ count h
   pub each : (u : ℕ) → u < count h → IsSessionEnd h u (slice_index ends u)
@@ -31,7 +31,7 @@ pub record AreEnds (h : History) (ends : List ℕ) : Type 0 where
 abbrev pub IsPairsFrom : History → ℕ → ℕ → List ℕ → Type 0
 IsPairsFrom h u end readers = (b : ℕ) → (causal_pair h u b ≡ true) ↔ (((u + 1 ≤ b) × (b < end)) ⊎ Contains readers b)
 
--- of each transaction the readers among the causal pairs that are no session pairs
+-- for each transaction the readers among the causal pairs that are not session pairs
 pub record AreReaders (h : History) (ends : List ℕ) (readers : List (List ℕ)) : Type 0 where
   pub long : length readers ≡ count h
   pub each : (u : ℕ) → u < count h → IsPairsFrom h u (slice_index ends u) (marks_of readers u)
@@ -48,11 +48,11 @@ pub record ArePairs (pairs : PairTables) : Type 0 where
   pub ended : AreEnds pairs.history pairs.ends
   pub others : AreReaders pairs.history pairs.ends pairs.readers
 
--- of each number one from which on up to it all are marked
+-- for each number one from which on, up to the number, all are marked
 abbrev pub AreSuffixes : List ℕ → List ℕ → Type 0
 AreSuffixes suffixes words = (last : ℕ) (b : ℕ) → last < length suffixes → slice_index suffixes last ≤ b → b ≤ last → is_marked words b ≡ true
 
--- room for the marks of n numbers, and for each a number from which on up to it all are marked
+-- room for the marks of n numbers, and for each number one from which on, up to it, all are marked
 pub record AreMarks (n : ℕ) (words : List ℕ) (suffixes : List ℕ) : Type 0 where
   pub wide : length words ≡ words_for n
   pub long : length suffixes ≡ n
@@ -71,7 +71,7 @@ pub record IsBoundFrom (h : History) (a : ℕ) (row : List ℕ) : Type 0 where
   pub long : length row ≡ count h
   pub reached : (b : ℕ) → IsReached h a b → slice_index row b ≢ NONE
 
--- the length where it is at most n, and none where it is more
+-- the length if it is at most n, and none if it is more
 abbrev pub IsLengthWithin : History → ℕ → ℕ → ℕ → Option ℕ → Type 0
 IsLengthWithin h a n b None = IsWithin h a n b → ⊥
 IsLengthWithin h a n b (Some d) = (d ≤ n) × IsShortest (causally h) a b d
@@ -113,11 +113,11 @@ unnumbered row = count_by (λ distance. distance == NONE) row
 abbrev pub one_step : Bool → ℕ
 one_step mark = if mark then 1 else NONE
 
--- seen is what has a length
+-- seen are the numbers that have a length
 abbrev pub IsSeen : List ℕ → List ℕ → Type 0
 IsSeen row seen = (b : ℕ) → b < length row → (is_marked seen b ≡ false) ↔ (slice_index row b ≡ NONE)
 
--- what is marked and had no length has got this one: those are the fresh ones, and seen is what has a length now
+-- what is marked and had no length has got this one: these are the fresh ones, and seen is what has a length now
 pub record IsRound (marks : List ℕ) (old : List ℕ) (new : List ℕ) (met : List ℕ) (found : List ℕ) (distance : ℕ) : Type 0 where
   pub each : (b : ℕ) → slice_index new b ≡ numbered old marks distance b
   pub fresh : (b : ℕ) → Contains found b ↔ ((is_marked marks b ≡ true) × (slice_index old b ≡ NONE))

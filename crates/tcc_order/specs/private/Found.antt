@@ -1,11 +1,11 @@
--- What is found of the links at a level.
+-- The links found at a level.
 use Rattle.tcc_graph.specs.Levels.{Judged}
 use Rattle.tcc_order.specs.Placements.{IsStuck}
 use Rattle.tcc_order.specs.private.CausalLinks.{AreLinks}
 use Rattle.tcc_order.specs.declared.commit_order.Links.{Links}
 use Rattle.tcc_order.specs.declared.commit_order.Links.TheVariants as links
 
--- links of the level that are kept, or causal pairs alone stand in a circle
+-- links of the level that are kept, or causal pairs alone make a cycle
 abbrev pub AreFound : Judged → Links → Type 0
 AreFound j (links.Kept kept) = AreLinks j kept.items
 AreFound j (links.Circle stuck) = IsStuck j stuck.kept.items stuck.placed.items

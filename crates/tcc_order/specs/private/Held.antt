@@ -1,4 +1,4 @@
--- What holds each transaction back: what it follows and reads, and the links that are kept.
+-- What holds each transaction back: what it follows and reads from, and the links that are kept.
 use Rattle.std.specs.Prelude.{ℕ, ◌<◌, ◌≡◌, ◌==◌, ◌&&◌, nat_lt, Bool, true, false, List, ◌++◌, length, slice_index, Contains}
 use Rattle.std.specs.Prelude.{◌↔◌, if◌then◌else◌, ◌+◌}
 use Rattle.std.specs.List.{list_any}
@@ -7,7 +7,7 @@ use Rattle.tcc_graph.specs.Tables.{row_of}
 use Rattle.tcc_bits.specs.Bits.{is_marked}
 use Rattle.tcc_clocks.specs.Parents.{parents}
 
--- what stands before x: its parents, and the sources of links that are kept
+-- what has to be before x: its parents, and the sources of links that are kept
 abbrev pub befores : History → List (List ℕ) → ℕ → List ℕ
 befores h kept x = parents h x ++ row_of kept x
 
@@ -19,7 +19,7 @@ holds h kept b x = (nat_lt b (count h) && nat_lt x (count h)) && list_any (λ y.
 abbrev pub AreInside : History → List (List ℕ) → Type 0
 AreInside h kept = (x b : ℕ) → Contains (row_of kept x) b → b < count h
 
--- x was not placed, and all that stands before it was
+-- x was not placed, and all that has to be before it was
 pub record IsFreeBy (precedes : ℕ → ℕ → Bool) (n : ℕ) (placed : List ℕ) (x : ℕ) : Type 0 where
   pub below : x < n
   pub new : is_marked placed x ≡ false

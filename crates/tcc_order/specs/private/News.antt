@@ -1,4 +1,5 @@
--- Who is new: the writers that were noted so far along an order, and the readings that may tell of their source more than its clock does.
+-- Which transactions are new: the writers that were noted so far along an order, and the readings that may tell more of their
+-- source than its clock does.
 use Rattle.std.specs.Prelude.{ℕ, ◌<◌, ◌≤◌, ◌+◌, ◌%◌, ◌≡◌, ◌≢◌, ◌⊎◌, ◌↔◌, max, List, length, slice_index, Contains}
 use Rattle.tcc_reads.specs.History.{History, count}
 use Rattle.tcc_graph.specs.Relations.{IsReadsPair}
@@ -18,34 +19,34 @@ HasClock h from table c = AreLatestOf h (IsBefore h c) from (row_of table c)
 abbrev pub IsOfBlock : List ℕ → ℕ → ℕ → Type 0
 IsOfBlock owners from c = (0 < c) × (from ≤ slice_index owners c) × (slice_index owners c < from + WIDE)
 
--- no transaction of the block stands before this position of the order
+-- no transaction of the block is before this position of the order
 abbrev pub NoneBefore : List ℕ → ℕ → List ℕ → ℕ → Type 0
 NoneBefore owners from order n = (j : ℕ) → j < n → IsOutside owners from (slice_index order j)
 
--- b is a writer of the key at this index, and one of those meant
+-- b is a writer of the key at this index, and is in the set
 abbrev pub IsWriterAmong : History → ℕ → (ℕ → Type 0) → ℕ → Type 0
 IsWriterAmong h key_index Among b = Contains (writers h (key_at h key_index)) b × Among b
 
--- no writer among those meant is past the number that the rows have of its key and its session; keys may share a row
+-- no writer in the set is past the number that the rows have for its key and its session; keys may share a row
 abbrev pub AreNoted : History → ℕ → (ℕ → Type 0) → List (List ℕ) → Type 0
 AreNoted h from Among rows =
     (key_index k b : ℕ) → key_index < length (keys h) → k < WIDE → IsOneOf h (IsWriterAmong h key_index Among) (from + k) b
     → b ≤ slice_index (row_of rows (key_index % length rows)) k
 
--- the rows' numbers only rose
+-- no number in the rows became less
 abbrev pub HaveRisen : List (List ℕ) → List (List ℕ) → Type 0
 HaveRisen old new = (index k : ℕ) → slice_index (row_of old index) k ≤ slice_index (row_of new index) k
 
--- and each of these keys has the number at a session now
+-- and each of these keys has at least this number at the session now
 abbrev pub AreRaised : List ℕ → ℕ → ℕ → List (List ℕ) → List (List ℕ) → Type 0
 AreRaised key_indices session number old new =
     HaveRisen old new × ((key_index : ℕ) → Contains key_indices key_index → number ≤ slice_index (row_of new (key_index % length new)) session)
 
--- of session k what the clock of a holds, and a itself; what is no greater than the floor is of no session of the block
+-- for session k what the clock of a holds, and a itself; what is at most the floor is in no session of the block
 abbrev pub known_of : List ℕ → ℕ → ℕ → List ℕ → ℕ → ℕ → ℕ
 known_of owners from floor clock a k = with_own Past owners from a k (max (slice_index clock k) floor)
 
--- each transaction of the block is greater
+-- each transaction of the block is above the floor
 abbrev pub IsFloor : List ℕ → ℕ → ℕ → Type 0
 IsFloor owners from floor = (b : ℕ) → 0 < b → b < length owners → from ≤ slice_index owners b → slice_index owners b < from + WIDE → floor < b
 
@@ -57,21 +58,21 @@ IsOfLane h from k b = IsOneOf h (λ b. Unit {0}) (from + k) b
 abbrev pub IsHeld : List ℕ → ℕ → List ℕ → ℕ → Type 0
 IsHeld owners from clock z = (z < length owners) × ((k : ℕ) × (k < length clock) × (slice_index owners z ≡ from + k) × (z ≤ slice_index clock k))
 
--- nobody of the block is z, or it is a, or the clock holds it
+-- z is at most the floor, so no transaction of the block, or it is a, or the clock holds it
 abbrev pub IsKnown : List ℕ → ℕ → ℕ → List ℕ → ℕ → ℕ → Type 0
 IsKnown owners from floor clock a z = (z ≤ floor) ⊎ ((z ≡ a) ⊎ IsHeld owners from clock z)
 
--- b is the head z, or reaches it, if that is a transaction
+-- z is above the floor, and b is the head z or reaches it, if z is a transaction
 abbrev pub IsHead : History → ℕ → ℕ → ℕ → Type 0
 IsHead h floor b z = (floor < z) × ((count h ≤ z) ⊎ ((b ≡ z) ⊎ IsReached h b z))
 
--- each writer among those meant has the head of its key
+-- each writer in the set has the head of its key
 abbrev pub HaveHeads : History → ℕ → ℕ → (ℕ → Type 0) → List ℕ → Type 0
 HaveHeads h from floor Among heads =
     (key_index k b : ℕ) → key_index < length (keys h) → k < WIDE → IsOneOf h (IsWriterAmong h key_index Among) (from + k) b
     → IsHead h floor b (slice_index heads (key_index % length heads))
 
--- who has the old head, and is not past the row, has the new one
+-- each transaction that has the old head, and is not past the row, has the new one
 abbrev pub KeepsHead : History → ℕ → ℕ → List ℕ → ℕ → ℕ → Type 0
 KeepsHead h from floor row old new = (k b : ℕ) → k < WIDE → IsOfLane h from k b → IsHead h floor b old → b ≤ slice_index row k → IsHead h floor b new
 
@@ -87,11 +88,11 @@ HasHeads h floor c key_indices heads = (key_index : ℕ) → Contains key_indice
 abbrev pub IsOtherWriter : History → ℕ → ℕ → List ℕ → ℕ → Type 0
 IsOtherWriter h a c x b = Contains (writers h x) b × (b ≢ a) × IsReached h b c
 
--- the clock of a holds each transaction of the block that stands before a as c reads x from it
+-- the clock of a holds each transaction of the block that has to be before a as c reads x from it
 abbrev pub TellsNone : History → ℕ → List (List ℕ) → ℕ → ℕ → List ℕ → Type 0
 TellsNone h from table a c x = (k b : ℕ) → k < WIDE → IsOneOf h (IsOtherWriter h a c x) (from + k) b → b ≤ slice_index (row_of table a) k
 
--- among these readings from a is the one of x by c, or it tells nothing more
+-- the reading of x by c is among these readings from a, or it tells nothing more
 abbrev pub IsTold : History → ℕ → List (List ℕ) → ℕ → List (ℕ × ℕ) → ℕ → List ℕ → Type 0
 IsTold h from table a readings c x = ((key_index : ℕ) × (key_at h key_index ≡ x) × Contains readings (c, key_index)) ⊎ TellsNone h from table a c x
 
@@ -99,7 +100,7 @@ IsTold h from table a readings c x = ((key_index : ℕ) × (key_at h key_index �
 abbrev pub AreReadingsOf : History → ℕ → List (ℕ × ℕ) → Type 0
 AreReadingsOf h a readings = (c key_index : ℕ) → Contains readings (c, key_index) → (key_index < length (keys h)) × IsReadsPair h a c (key_at h key_index)
 
--- readings from a, among them all that may tell more
+-- readings from a, which include all that may tell more
 pub record AreNewsOf (h : History) (from : ℕ) (table : List (List ℕ)) (a : ℕ) (readings : List (ℕ × ℕ)) : Type 0 where
   pub sound : AreReadingsOf h a readings
   pub enough : (c : ℕ) (x : List ℕ) → IsReadsPair h a c x → IsTold h from table a readings c x
@@ -109,7 +110,7 @@ pub record AreNews (h : History) (from : ℕ) (table : List (List ℕ)) (rows : 
   pub long : length rows ≡ count h
   pub each : (a : ℕ) → AreNewsOf h from table a (row_of rows a)
 
--- rows only got longer, and what stands in them are readings
+-- the rows keep all their readings, and may have more
 abbrev pub AreWider : List (List (ℕ × ℕ)) → List (List (ℕ × ℕ)) → Type 0
 AreWider old new = (a : ℕ) (reading : ℕ × ℕ) → Contains (row_of old a) reading → Contains (row_of new a) reading
 

@@ -1,4 +1,4 @@
--- What comes of placing the transactions one after the other.
+-- The result of placing the transactions one after another.
 use Rattle.std.specs.Prelude.{ℕ, ◌<◌, ◌≡◌, Bool, true, false, List}
 use Rattle.tcc_bits.specs.Bits.{is_marked}
 use Rattle.tcc_order.specs.private.Numbering.{IsFirstOf}
@@ -9,7 +9,7 @@ use Rattle.tcc_order.specs.declared.kahn.Placed.TheVariants as placed
 abbrev pub IsLeftOut : ℕ → List ℕ → ℕ → Type 0
 IsLeftOut n marks x = (x < n) × (is_marked marks x ≡ false)
 
--- some were not placed, and each of them stands behind one that was not
+-- some were not placed, and each of them has to come after one that was not
 pub record IsStuckBy (precedes : ℕ → ℕ → Bool) (n : ℕ) (marks : List ℕ) : Type 0 where
   pub some : (x : ℕ) × IsLeftOut n marks x
   pub held : (x : ℕ) → IsLeftOut n marks x → (b : ℕ) × IsLeftOut n marks b × (precedes b x ≡ true)

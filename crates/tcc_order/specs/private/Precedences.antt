@@ -1,4 +1,4 @@
--- What holds each transaction back, as Kahn's algorithm has it at hand.
+-- What holds each transaction back, in the terms of Kahn's algorithm.
 use Rattle.std.specs.Prelude.{ℕ, ◌≡◌, Bool, length}
 use Rattle.tcc_reads.specs.History.{count}
 use Rattle.tcc_clocks.specs.Parents.{ArePrevious}

@@ -1,4 +1,4 @@
--- Numbers that may be placed next: those that are ready to be looked at, and those that wait for one that holds them back.
+-- Numbers that may be placed next: those that are ready to be examined, and those that wait for one that holds them back.
 use Rattle.std.specs.Prelude.{ℕ, ◌<◌, ◌≤◌, ◌+◌, ◌≡◌, ◌⊎◌, Bool, true, false, List, length, slice_index, Contains}
 use Rattle.tcc_graph.specs.Tables.{row_of}
 use Rattle.tcc_bits.specs.Bits.{is_marked}
@@ -16,7 +16,7 @@ abbrev pub IsQueued : (ℕ → ℕ → Bool) → List ℕ → List ℕ → List 
 IsQueued precedes placed ready waiting x =
     Contains ready x ⊎ ((b : ℕ) × (is_marked placed b ≡ false) × (precedes b x ≡ true) × Contains (row_of waiting b) x)
 
--- each number meant that was not placed, and whose parent is 0 or was placed
+-- each number of the given kind is queued that was not placed, and whose parent is 0 or was placed
 pub record AreQueued (precedes : ℕ → ℕ → Bool) (parents : List ℕ) (placed : List ℕ) (IsMeant : ℕ → Type 0) (ready : List ℕ) (waiting : List (List ℕ)) : Type 0 where
   pub long : length waiting ≡ length parents
   pub inside : (x : ℕ) → Contains ready x → x < length parents

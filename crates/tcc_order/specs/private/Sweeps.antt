@@ -1,4 +1,4 @@
--- By what the links from each block of sessions are found, and in which shares.
+-- What the search for the links from each block of sessions needs, and its shares.
 use Rattle.std.specs.Prelude.{ℕ, ◌<◌, ◌+◌, ◌*◌, ◌≡◌, List, length, min, slice_index_or}
 use Rattle.tcc_reads.specs.History.{History, IsBySession, count}
 use Rattle.tcc_graph.specs.Orders.{IsNumbering}
@@ -15,7 +15,7 @@ use Rattle.tcc_order.specs.declared.shares.Shares.{Shares}
 abbrev pub Links : Type 0
 Links = Vec (List ℕ)
 
--- all of it is what it is called
+-- each part of it is what its name says
 pub record IsSweep (s : Sweep) : Type 0 where
   pub numbered : IsBySession s.graph.now.entries
   pub owners : AreOwners s.graph.now s.owners.now
@@ -24,7 +24,7 @@ pub record IsSweep (s : Sweep) : Type 0 where
   pub steps : AreSteps s.graph.now s.order.now s.steps.now.spans.items s.steps.now.numbers.items (length s.order.now)
   pub needed : AreNeeded s.graph.now s.needed.now
 
--- where a share begins: at this block
+-- the block at which a share begins
 abbrev pub start_of : Shares → ℕ → ℕ
 start_of s share = min (s.size * share) s.blocks
 

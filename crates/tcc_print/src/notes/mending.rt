@@ -1,4 +1,4 @@
-//! What stands where a record has a fault, by the kind of the fault.
+//! What is expected where a record has a fault, by the kind of the fault.
 ghost use Rattle.std.specs.Prelude.{◌≡◌, ◌++◌, OnOk};
 ghost use Rattle.tcc_print.specs.RowNotes.{expected_text, limit_text, most_text, shown_of, stands_text, wider, word_stands};
 
@@ -10,7 +10,7 @@ use tcc_txn::{Limits, MAX_OPERATIONS, NoMemory};
 /// What the note of a fault shows of the record.
 #[derive(Clone, Copy)]
 pub(super) enum Shown {
-    /// The field at this place, from 0.
+    /// The field at this index.
     Field(usize),
     /// All of it.
     Record,
@@ -23,7 +23,7 @@ const NAME: &str = "a name, which is 1 to 32 of A-Z, a-z, 0-9, '_', '.' and '-'"
 const RECORD: &str =
     "SESSION,begin or SESSION,r,KEY,VALUE or SESSION,w,KEY,VALUE or SESSION,commit or SESSION,abort or seal";
 
-/// What is shown of a record of so many fields with a fault of this kind.
+/// What is shown of a record with this number of fields and a fault of this kind.
 pub(super) fn shown_of(kind: &RowFaultKind, fields: usize) -> Shown
     ensures { result ≡ shown_of kind.now fields }
 {
@@ -47,7 +47,7 @@ pub(super) fn shown_of(kind: &RowFaultKind, fields: usize) -> Shown
     }
 }
 
-/// What stands where a record of so many fields has an unknown word.
+/// What is expected where a record with this number of fields has an unknown word.
 fn word_stands(fields: usize) -> &'static str
     ensures { result.now ≡ word_stands fields }
 {
@@ -59,7 +59,7 @@ fn word_stands(fields: usize) -> &'static str
     }
 }
 
-/// What a limit is of: where there is a wider one, it says by which option.
+/// What a limit counts; where there is a wider limit, also by which option.
 fn wider(limits: Limits, small: &'static str, large: &'static str) -> &'static str
     ensures { result.now ≡ wider limits small.now large.now }
 {
@@ -69,14 +69,14 @@ fn wider(limits: Limits, small: &'static str, large: &'static str) -> &'static s
     }
 }
 
-/// Adds what stands there instead.
+/// Adds what is expected there.
 fn push_stands(text: &mut Vec<u8>, stands: &str) -> Result<(), NoMemory>
     ensures { OnOk result (text.new.items ≡ text.old.items ++ stands_text stands.now) }
 {
     push(text, &[b"expected ", stands.as_bytes()])
 }
 
-/// Adds that there are at most so many of these.
+/// Adds that there are at most this many of these.
 fn push_most(alloc: Global, text: &mut Vec<u8>, most: u64, things: &str) -> Result<(), NoMemory>
     ensures { OnOk result (text.new.items ≡ text.old.items ++ most_text most things.now) }
 {
@@ -87,7 +87,7 @@ fn push_most(alloc: Global, text: &mut Vec<u8>, most: u64, things: &str) -> Resu
     )
 }
 
-/// Adds what a limit of an input is, that of a record's fault.
+/// Adds the limit of an input that a record exceeds, by the kind of its fault.
 fn push_limit(
     alloc: Global,
     text: &mut Vec<u8>,
@@ -129,7 +129,7 @@ fn push_limit(
     }
 }
 
-/// Adds what stands where a record of so many fields has a fault of this kind, in an input of these limits.
+/// Adds what is expected where a record with this number of fields has a fault of this kind, in an input of these limits.
 pub(super) fn push_expected(
     alloc: Global,
     text: &mut Vec<u8>,

@@ -8,10 +8,10 @@ use tcc_txn::NoMemory;
 /// How many bytes are shown.
 const MOST_SHOWN: usize = 48;
 
-/// The digits of a byte's number.
+/// The digits of a byte's value.
 const DIGITS: &[u8; 16] = b"0123456789abcdef";
 
-/// Of many bytes the first, as many as these; of fewer all.
+/// The first bytes, at most this many.
 fn first_bytes(bytes: &[u8], most: usize) -> &[u8]
     ensures { result.now ≡ take most bytes.now }
 {
@@ -22,7 +22,7 @@ fn first_bytes(bytes: &[u8], most: usize) -> &[u8]
     }
 }
 
-/// Of many bytes those that are shown, and one more, which says that there are more; of others all.
+/// The bytes that are shown, and one more, where there is one, by which it shows that there are more.
 pub(super) fn shown_and_more(bytes: &[u8]) -> &[u8]
     ensures { result.now ≡ take 49 bytes.now }
 {
@@ -36,7 +36,7 @@ fn is_plain(byte: u8) -> bool
     b' ' <= byte && byte <= b'~' && byte != b'"' && byte != b'\\'
 }
 
-/// Adds a byte: a plain one as it is, another by its number.
+/// Adds a byte: a plain one as it is, any other by its value.
 fn push_byte(text: &mut Vec<u8>, byte: u8) -> Result<(), NoMemory>
     ensures { OnOk result (text.new.items ≡ text.old.items ++ byte_shown byte) }
 {

@@ -10,7 +10,7 @@ use tcc_answer::pieces::push;
 use tcc_reads::{ReadFault, ReadFaultKind};
 use tcc_txn::{Bounds, Name, NoMemory, Op, Recorded, SnapshotWithin};
 
-/// Where a write stands: its session, the place of its transaction there and its own in the transaction, from 1.
+/// The place of a write: its session, the place of its transaction there and its own in the transaction, from 1.
 #[derive(Clone, Copy)]
 pub(super) struct WritePlace {
     session: Name,
@@ -79,7 +79,7 @@ fn first_write<B: Bounds>(snapshot: &SnapshotWithin<B>, key: Name, value: u64) -
     None
 }
 
-/// What is said of the write that stands there.
+/// What is said of the write at that place.
 fn about(kind: ReadFaultKind) -> &'static str
     ensures { result.now ≡ write_told kind }
 {

@@ -10,11 +10,11 @@ use Rattle.tcc_reads.specs.private.Numbers.{Numbered}
 abbrev pub has_key : List (List ℕ) → List ℕ → Bool
 has_key keys x = list_any (bytes_eq x) keys
 
--- the first index at which the key stands
+-- the first index at which the list has the key
 abbrev pub index_of : List (List ℕ) → List ℕ → Option ℕ
 index_of keys x = position_from (bytes_eq x) 0 keys
 
--- the index of a key that is there
+-- the index of a key of the list
 abbrev pub key_index : List (List ℕ) → List ℕ → ℕ
 key_index keys x = unwrap_or (index_of keys x) 0
 
@@ -22,13 +22,13 @@ key_index keys x = unwrap_or (index_of keys x) 0
 abbrev pub keys_used : List Numbered → List (List ℕ)
 keys_used ns = flat_map (λ n. map op_key n.stand.txn.ops) ns
 
--- each key that these operations write is there
+-- each key that these operations write is in the list
 abbrev pub AreKnownIn : List (List ℕ) → List Op → Type 0
 AreKnownIn keys [] = Unit {0}
 AreKnownIn keys (Get key value ∷ later) = AreKnownIn keys later
 AreKnownIn keys (Put key value ∷ later) = (has_key keys key ≡ true) × AreKnownIn keys later
 
--- the keys that these transactions write are among the keys
+-- each key that these transactions write is in the list
 abbrev pub AreKnown : List (List ℕ) → List Numbered → Type 0
 AreKnown keys [] = Unit {0}
 AreKnown keys (n ∷ later) = AreKnownIn keys n.stand.txn.ops × AreKnown keys later

@@ -6,10 +6,10 @@ use Rattle.std.specs.FinMap.{entries}
 use Rattle.tcc_txn.specs.declared.limits.TheConstants.{LARGE_COUNT}
 use Rattle.tcc_txn.specs.Snapshots.{Sessions, finished_at}
 use Rattle.tcc_txn.specs.Transactions.{Transaction}
-use Rattle.tcc_reads.specs.declared.standing.Place.{Place}
+use Rattle.tcc_reads.specs.declared.located.Place.{Place}
 use Rattle.tcc_reads.specs.Sites.{Stand, is_committed}
 
--- a transaction, with one more than the number of committed ones before it: its number, if it was committed
+-- a transaction, with one more than the count of committed ones before it: its number, if it was committed
 pub record Numbered : Type 0 where
   pub number : ℕ
   pub stand : Stand
@@ -29,7 +29,7 @@ numbered_code =
     (λ p. record { number = p.0.0; stand = record { session = p.0.1; name = p.1.0; place = p.1.1.0; txn = p.1.1.1 } })
     (λ _. refl)
 
--- a transaction of the snapshot stands there
+-- a transaction of the snapshot is at this place
 pub record IsPlace (s : Sessions) (p : Place) : Type 0 where
   pub session : p.session < length (entries s)
   pub before : p.before < length (finished_at s p.session)

@@ -1,8 +1,8 @@
--- What a sort asks of an order.
+-- What a sort requires of an order.
 use Rattle.std.specs.Prelude.{◌≡◌}
 use Rattle.std.specs.declared.cmp.Ordering.{Ordering}
 use Rattle.std.specs.declared.cmp.Ordering.TheVariants.{Equal}
 
--- only the same items tie
+-- only equal items tie
 abbrev pub TellsApart : {K : Type 0} → (K → K → Ordering) → Type 0
 TellsApart {K} cmp = (x y : K) → cmp x y ≡ Equal → x ≡ y

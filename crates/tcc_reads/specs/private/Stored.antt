@@ -1,4 +1,4 @@
--- How a resolved history lies in memory.
+-- How a resolved history is stored in memory.
 use Rattle.std.specs.Prelude.{ℕ, ◌≡◌, ◌<◌, ◌≤◌, List, length, All, slice_index_or}
 use Rattle.std.specs.List.Sorted.{IsStrictlySortedBy}
 use Rattle.std.below.core.specs.declared.int.u32.TheConstants.{MAX}
@@ -18,13 +18,13 @@ pub record IsStored (sessions : List (List ℕ)) (places : List (ℕ × ℕ)) (e
   pub reads_ordered : All (λ e. IsStrictlySortedBy pair_cmp e.reads) entries
   pub ordered : IsBySession entries
 
--- the keys stand in byte order, each once, and the transactions have indices of them
+-- the keys are in byte order, each once, and the transactions have indices of them
 pub record AreKeyed (keys : List (List ℕ)) (indexed : List Indexed) : Type 0 where
   pub sorted : IsStrictlySortedBy name_cmp keys
   pub few : length keys ≤ MAX
   pub within : All (IsWithin (length keys)) indexed
 
--- the transactions of a history, whose reads have sources there and stand in order
+-- the transactions of a history, whose reads have sources there and are in order
 pub record AreNamed (h : History) (named : List Entry) : Type 0 where
   pub is : named ≡ h.entries
   pub sources : All (λ e. All (λ r. r.1 < length h.entries) e.reads) named

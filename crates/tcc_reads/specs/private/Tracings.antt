@@ -1,4 +1,4 @@
--- What a second look at the operations traces, in the terms of the table of first writes.
+-- What a second pass over the operations traces, in terms of the table of first writes.
 use Rattle.std.specs.Prelude.{ℕ, Bool, not, if◌then◌else◌, List, map, filter, filter_map, Option, None}
 use Rattle.std.specs.BTreeSet.{BTreeSet, contains}
 use Rattle.tcc_txn.specs.Transactions.{op_key, op_value}

@@ -1,5 +1,5 @@
--- What the resolver finds out about the operations, in the terms of its
--- table of first writes. That this is what Faults and Sources say is proved.
+-- What the resolver finds out about the operations, in terms of its table of first writes. Proofs show that this is what
+-- Faults and Sources say.
 use Rattle.std.specs.Prelude.{ℕ, ◌≡◌, ◌<◌, ◌≤◌, nat_lt, slice_index_or, true, false, Bool, ◌&&◌, ◌==◌, not, if◌then◌else◌, List, []}
 use Rattle.std.specs.Prelude.{◌∷◌, ◌++◌, map, filter, filter_map, flat_map, find, length, ◌+◌, Option, None, Some}
 use Rattle.std.specs.Prelude.{option_map}
@@ -63,7 +63,7 @@ pub record Table : Type 0 where
 abbrev pub is_of : ℕ → ℕ → Write → Bool
 is_of k v write = (write.key == k) && (write.value == v)
 
--- the writer in a list of writes: of those of a value at the key of an index the first
+-- the first writer in a list of writes of a value at the key of an index
 abbrev pub writer_of : List Write → ℕ → ℕ → Option Writer
 writer_of writes k v = option_map (λ write. write.writer) (find (is_of k v) writes)
 
@@ -71,7 +71,7 @@ writer_of writes k v = option_map (λ write. write.writer) (find (is_of k v) wri
 abbrev pub writers_in : Table → Writes
 writers_in table x v = option_and_then (λ k. writer_of table.writes k v) (index_of table.keys x)
 
--- a write and one of this value at the key of this index, by key, then by value
+-- the order of a write and of a write of this value at the key of this index: by key, then by value
 abbrev pub spot_cmp : Write → ℕ → ℕ → Ordering
 spot_cmp write k v = ordering_then (nat_cmp write.key k) (nat_cmp write.value v)
 
@@ -86,7 +86,7 @@ AreApart writes = AllAdjacentBelow (λ one other. write_cmp one other ≡ Less) 
 abbrev pub is_below : ℕ → Write → Bool
 is_below k write = nat_lt write.key k
 
--- sorted writes of lower keys stand before this index, and no others
+-- sorted writes of lower keys are before this index, and no others
 abbrev pub IsStart : List Write → ℕ → ℕ → Type 0
 IsStart writes k i = (i ≤ length writes) × IsPartitionPoint (λ write. is_below k write ≡ true) (λ write. is_below k write ≡ false) writes i
 
@@ -127,12 +127,12 @@ AreOwn table (n ∷ later) = AreOwnIn table n [] n.stand.txn.ops × AreOwn table
 abbrev pub is_in : Numbered → Writer → Bool
 is_in n first = (first.session == n.stand.session) && (first.place == n.stand.place)
 
--- of a write at this position of its transaction
+-- the judgement of a write at this position of its transaction
 abbrev pub write_judgement : Numbered → ℕ → Option Writer → OpJudgement
 write_judgement n position None = Faulty Duplicate
 write_judgement n position (Some first) = if is_in n first && (first.op == position) then Silent else Faulty Duplicate
 
--- an operation at this position is no write, or the one that the table has for its value at its key
+-- an operation at this position is not a write, or the one that the table has for its value at its key
 abbrev pub IsOwn : Writes → Numbered → ℕ → Op → Type 0
 IsOwn table n position (Get key value) = Unit {0}
 IsOwn table n position (Put key value) = write_judgement n position (table key value) ≡ Silent
@@ -142,12 +142,12 @@ judgement_from n first None = Faulty Aborted
 judgement_from n first (Some number) =
     if is_in n first then Faulty Future else if first.last then ReadsFrom number else Faulty Intermediate
 
--- of an external read of a value other than 0
+-- the judgement of an external read of a value other than 0
 abbrev pub read_judgement : Numbered → Option Writer → OpJudgement
 read_judgement n None = Faulty ThinAir
 read_judgement n (Some first) = judgement_from n first first.number
 
--- of a read, by the latest own write of its key and the first write of its value
+-- the judgement of a read, by the latest own write of its key and the first write of its value
 abbrev pub own_judgement : Numbered → ℕ → Option ℕ → Option Writer → OpJudgement
 own_judgement n value (Some own) first = if own == value then Silent else Faulty BrokenInternal
 own_judgement n value None first = if value == 0 then ReadsFrom 0 else read_judgement n first

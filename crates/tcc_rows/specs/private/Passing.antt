@@ -1,10 +1,10 @@
--- What comes of a line after those before it, as the private stages have it.
+-- The result of a line after those before it, as the private stages have it.
 use Rattle.std.specs.Prelude.{ℕ, ◌≡◌, ◌≤◌, ◌<◌, ◌⊎◌, true, false, List, ◌∷◌, length, Option, None, Some, Result, Ok, Err}
 use Rattle.std.specs.Option.{option_map_or}
 use Rattle.tcc_txn.specs.Limits.{most_keys, most_sessions}
 use Rattle.tcc_rows.specs.Lines.{Record, line_of}
 use Rattle.tcc_rows.specs.Past.{fault_within, is_begun, item_of, lesser, sessions, with_name}
-use Rattle.tcc_rows.specs.Standing.{HoldsNames, IsAfter}
+use Rattle.tcc_rows.specs.SessionStates.{HoldsNames, IsAfter}
 use Rattle.tcc_rows.specs.declared.rows.Item.{Item}
 use Rattle.tcc_rows.specs.declared.fault.RowFaultKind.{RowFaultKind}
 use Rattle.tcc_rows.specs.declared.fault.RowFaultKind.TheVariants as kind

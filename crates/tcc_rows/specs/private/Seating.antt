@@ -1,4 +1,4 @@
--- How the seats of the sessions lie in memory, and how one of them changes.
+-- How the seats of the sessions are stored in memory, and how one of them changes.
 use Rattle.std.specs.Prelude.{ℕ, zero, suc, ◌≡◌, Bool, false, if◌then◌else◌, List, [], ◌∷◌, map, Option, Some, Result, is_some}
 use Rattle.tcc_txn.specs.Bytes.{same}
 use Rattle.tcc_txn.specs.Symbols.{is_symbol}
@@ -7,7 +7,7 @@ use Rattle.tcc_rows.specs.Seats.{Seats, seat_at}
 use Rattle.tcc_rows.specs.private.Drafts.{AddsOp}
 use Rattle.tcc_rows.specs.declared.fault.RowFaultKind.{RowFaultKind}
 
--- each name stands once
+-- each name is in the list once
 abbrev pub AreOnce : List (List ℕ) → Type 0
 AreOnce [] = Unit {0}
 AreOnce (name ∷ names) = (is_symbol name names ≡ false) × AreOnce names
@@ -17,13 +17,13 @@ pub record AreNumbered (names : List (List ℕ)) (seats : Seats) : Type 0 where
   pub each : names ≡ map (λ seat. seat.0) seats
   pub once : AreOnce names
 
--- the session's seat stands at the number
+-- the session's seat is at the number
 abbrev pub IsSeat : Seats → List ℕ → ℕ → Type 0
 IsSeat [] session n = ⊥
 IsSeat (seat ∷ seats) session zero = seat.0 ≡ session
 IsSeat (seat ∷ seats) session (suc n) = IsSeat seats session n
 
--- the session has this seat now, and any other the one that it had
+-- the session has this seat now, and each other session keeps its own
 abbrev pub PutsSeat : Seats → List ℕ → Option (List Op) → Seats → Type 0
 PutsSeat old session begun new = (name : List ℕ) → seat_at new name ≡ (if same session name then Some begun else seat_at old name)
 

@@ -1,4 +1,4 @@
--- How far a reader of rows has come by what it gave last.
+-- How far a reader of rows has come, by what it gave last.
 use Rattle.std.specs.Prelude.{Option, None, Some}
 use Rattle.tcc_rows.specs.declared.rows.Item.{Item}
 use Rattle.tcc_rows.specs.declared.rows.Stage.{Stage}

@@ -25,11 +25,11 @@ abbrev pub puts : List ℕ × ℕ → Op → Bool
 puts written (Get key value) = false
 puts written (Put key value) = same key written.0 && (value == written.1)
 
--- some of the transactions writes the value at the key
+-- one of the transactions writes the value at the key
 abbrev pub is_written : Pending → List ℕ × ℕ → Bool
 is_written pending written = list_any (λ p. list_any (puts written) p.1.ops) pending
 
--- of a set those stay that a test refuses
+-- of a set exactly those stay that a test refuses
 abbrev pub Strikes : (List ℕ × ℕ → Bool) → WrittenSet → WrittenSet → Type 0
 Strikes is_struck old new = (written : List ℕ × ℕ) → holds new written ≡ (holds old written && not (is_struck written))
 

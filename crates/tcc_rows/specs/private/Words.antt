@@ -20,14 +20,14 @@ answers_after = answers_after_within Small
 abbrev pub records_read : {R : Type 0} → Rows R → ℕ
 records_read rows = rows.records.count
 
--- what `csv` says of its failure: the reader failed, or memory was refused
+-- what a failure of `csv` means: the reader failed, or memory was refused
 abbrev pub failure_of : ErrorKind → RowFaultKind
 failure_of error = if is_io error then kind.Read else kind.NoMemory
 
 abbrev pub judged : List Line → Record → Result Line RowFaultKind
 judged = judged_within Small
 
--- what a record shows whose transaction a snapshot doesn't take
+-- the kind of a record whose transaction a snapshot doesn't accept
 abbrev pub kind_of : GrowFault → RowFaultKind
 kind_of grow.TooManySessions = kind.TooManySessions
 kind_of grow.TooManyTransactions = kind.TooManyTransactions

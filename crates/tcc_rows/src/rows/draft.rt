@@ -9,7 +9,7 @@ use std::alloc::Global;
 use std::marker::Model;
 use tcc_txn::{MAX_OPERATIONS, Op, Txn};
 
-/// Up to `MAX_OPERATIONS` operations, of which none writes 0, and the numbers of their keys among the keys so far.
+/// Up to `MAX_OPERATIONS` operations, none of which writes 0, and the numbers of their keys among the keys so far.
 #[derive(Drop)]
 pub(crate) struct Draft {
     ops: Vec<Op>,
@@ -28,7 +28,7 @@ impl Model for Draft {
 }
 
 impl Draft {
-    /// No operations; the numbers have the room of those that were noted before.
+    /// No operations. The vector `room` is reused for the numbers of keys.
     pub(crate) fn new(alloc: Global, room: Vec<u32>) -> Draft
         ensures { result ≡ [] }
     {
@@ -76,7 +76,7 @@ impl Draft {
         Txn::new(self.ops, committed).unwrap()
     }
 
-    /// The transaction of the writes alone, as it is where it counts as committed.
+    /// The transaction of the writes alone, as it is if it counts as committed.
     pub(crate) fn finish_writes(self) -> Txn
         ensures { result ≡ record { ops = writes_of self; committed = true } }
     {
@@ -86,7 +86,7 @@ impl Draft {
     }
 }
 
-/// Leaves the writes among the operations.
+/// Keeps the writes among the operations.
 fn keep_writes(ops: &mut Vec<Op>)
     ensures { ops.new.items ≡ writes_of ops.old.items }
 {

@@ -1,4 +1,4 @@
-//! A reader that gives up past a limit on bytes, and that is asked no more once it has met its end.
+//! A reader that gives up above a limit on bytes, and that is not read again once it has reached its end.
 ghost use Rattle.std.specs.Prelude.{◌≡◌, ◌<◌, [], true, length, OnOk, OnErr, Ok, option_map};
 ghost use Rattle.std.specs.Io.{ReadsAtMost};
 ghost use Rattle.std.specs.Io.KnownBytes.{Consumes, IsAtEnd, Keeps, ReadConsumes};
@@ -8,18 +8,18 @@ ghost use Rattle.tcc_rows.specs.declared.rows.limited.BytesStage.TheVariants as 
 use std::io;
 use std::io::{ErrorKind, Read};
 
-/// What the reader inside has shown so far.
+/// What the inner reader has shown so far.
 #[derive(Clone, Copy)]
 enum BytesStage {
     /// There may be more bytes.
     Going,
-    /// There are no more bytes. That is final: a terminal gives more after an end.
+    /// There are no more bytes. That is final: a terminal may give more after an end.
     Ended,
     /// There are more bytes than the limit lets through.
     Over,
 }
 
-/// At most so many bytes of the reader inside; where it has more, an error stands after them.
+/// At most `left` bytes of the inner reader. If it has more, an error comes after them.
 #[derive(Drop)]
 pub(crate) struct Limited<R> {
     inner: R,
@@ -38,7 +38,7 @@ impl<R: Read> Limited<R> {
         }
     }
 
-    /// Tells the end of the bytes, where none may follow, from a reader that has more.
+    /// Distinguishes the end of the bytes, if no more may follow, from a reader that has more.
     fn expect_end(&mut self) -> io::Result<()>
         requires going { self.old.stage ≡ stage.Going }
         requires none_left { self.old.left ≡ 0 }
@@ -83,7 +83,7 @@ impl<R: Read> Read for Limited<R> {
         ensures bound { ReadsAtMost result buf.new }
         ensures bytes { ReadConsumes (limited_remaining R.remaining self.old) (limited_remaining R.remaining self.new) result buf.new }
 
-        // The end is final: the reader inside stays as it is.
+        // The end is final: the inner reader stays as it is.
         ensures stays { met_end self.old ≡ true → (result ≡ Ok 0) × (self.new ≡ self.old) }
         ensures met { result ≡ Ok 0 → 0 < length buf.old → met_end self.new ≡ true }
     {

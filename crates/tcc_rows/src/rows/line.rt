@@ -1,27 +1,27 @@
 //! What one record says by itself.
 ghost use Rattle.std.specs.Prelude.{◌≡◌, ◌≢◌, ◌<◌, ◌≤◌, ◌+◌, ◌*◌, ◌-◌, ◌^◌, ◌∷◌, [], length, IfErr, MatchOption};
 ghost use Rattle.csv.specs.Records.{field_at, fields_of};
-ghost use Rattle.tcc_rows.specs.{private.Words.access_of, private.Words.session_of, private.Turns.read_as};
+ghost use Rattle.tcc_rows.specs.{private.Words.access_of, private.Words.session_of, private.ControlRecords.read_as};
 ghost use Rattle.tcc_rows.specs.Lines.{digits_of, line_of, op_of, value_of};
 
 use crate::RowFaultKind;
 use csv::ByteRecord;
 use tcc_txn::{Name, Op};
 
-/// What a lawful record says that is no operation.
+/// What a lawful record says that is not an operation.
 #[derive(Clone, Copy)]
-pub(crate) enum Turn {
+pub(crate) enum ControlRecord {
     /// An answer is wanted for what was finished so far.
     Seal,
     /// A transaction of the session begins.
     Begin { session: Name },
     /// The session's transaction is finished.
     Finish { session: Name, committed: bool },
-    /// The session's transaction ends, and nobody told how; so does the session.
+    /// The session's transaction ends with unknown outcome, and so does the session.
     Unknown { session: Name },
 }
 
-/// The number behind whose digits one more stands, where 64 bits have room for it.
+/// The number with one more digit after its digits, if 64 bits have room for it.
 fn with_digit(value: u64, digit: u8) -> Option<u64>
     requires { 48 ≤ digit }
     ensures { MatchOption result (2 ^ 64 ≤ value * 10 + (digit - 48)) (λ more. (more ≡ value * 10 + (digit - 48)) × (more < 2 ^ 64)) }
@@ -32,7 +32,7 @@ fn with_digit(value: u64, digit: u8) -> Option<u64>
     }
 }
 
-/// The number of 64 bits that the digits write.
+/// The number of 64 bits that the digits denote.
 fn parse_digits(digits: &[u8]) -> Option<u64>
     ensures { result ≡ digits_of digits.now }
 {
@@ -52,7 +52,7 @@ fn parse_digits(digits: &[u8]) -> Option<u64>
     Some(value)
 }
 
-/// The number of 64 bits that the digits write, without sign and without leading zeros.
+/// The number of 64 bits that the digits denote, without sign and without leading zeros.
 fn read_value(digits: &[u8]) -> Option<u64>
     ensures { result ≡ value_of digits.now }
 {
@@ -63,19 +63,19 @@ fn read_value(digits: &[u8]) -> Option<u64>
 }
 
 /// A record of one field.
-fn read_seal(word: &[u8]) -> Result<Turn, RowFaultKind>
+fn read_seal(word: &[u8]) -> Result<ControlRecord, RowFaultKind>
     ensures line { read_as result ≡ line_of (word.now ∷ []) }
     ensures other { IfErr result (λ kind. kind ≢ RowFaultKind.Read) }
 {
     if word == b"seal".as_slice() {
-        Ok(Turn::Seal)
+        Ok(ControlRecord::Seal)
     } else {
         Err(RowFaultKind::UnknownWord)
     }
 }
 
 /// A record of two fields.
-fn read_turn(session: &[u8], word: &[u8]) -> Result<Turn, RowFaultKind>
+fn read_turn(session: &[u8], word: &[u8]) -> Result<ControlRecord, RowFaultKind>
     ensures line { read_as result ≡ line_of (session.now ∷ word.now ∷ []) }
     ensures other { IfErr result (λ kind. kind ≢ RowFaultKind.Read) }
 {
@@ -83,19 +83,19 @@ fn read_turn(session: &[u8], word: &[u8]) -> Result<Turn, RowFaultKind>
         return Err(RowFaultKind::BadSession);
     };
     if word == b"begin".as_slice() {
-        Ok(Turn::Begin { session })
+        Ok(ControlRecord::Begin { session })
     } else if word == b"commit".as_slice() {
-        Ok(Turn::Finish {
+        Ok(ControlRecord::Finish {
             session,
             committed: true,
         })
     } else if word == b"abort".as_slice() {
-        Ok(Turn::Finish {
+        Ok(ControlRecord::Finish {
             session,
             committed: false,
         })
     } else if word == b"unknown".as_slice() {
-        Ok(Turn::Unknown { session })
+        Ok(ControlRecord::Unknown { session })
     } else {
         Err(RowFaultKind::UnknownWord)
     }
@@ -121,7 +121,7 @@ pub(crate) fn read_op(writes: bool, key: &[u8], value: &[u8]) -> Result<Op, RowF
     }
 }
 
-/// The session of an operation, which is mostly that of the one before.
+/// The session of an operation, which is usually that of the operation before.
 pub(crate) fn read_session(last: &mut Option<Name>, session: &[u8]) -> Result<Name, RowFaultKind>
     ensures session { result ≡ session_of session.now }
     ensures other { IfErr result (λ kind. kind ≢ RowFaultKind.Read) }
@@ -160,8 +160,8 @@ pub(crate) fn field(fields: &ByteRecord, index: usize) -> &[u8]
     fields.get(index).unwrap()
 }
 
-/// What a record of other than four fields says, or what is wrong with the record by itself.
-pub(crate) fn read_line(fields: &ByteRecord) -> Result<Turn, RowFaultKind>
+/// What a record without four fields says, or what is wrong with it by itself.
+pub(crate) fn read_line(fields: &ByteRecord) -> Result<ControlRecord, RowFaultKind>
     requires { length (fields_of fields.now) ≢ 4 }
     ensures line { read_as result ≡ line_of (fields_of fields.now) }
     ensures other { IfErr result (λ kind. kind ≢ RowFaultKind.Read) }

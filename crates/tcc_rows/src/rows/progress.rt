@@ -2,9 +2,9 @@
 ghost use Rattle.std.specs.Prelude.{◌≡◌, ℕ, ◌∷◌, [], false, true, List, IfOk, None, fold, length, ◌≢◌, IfErr, OnOk};
 ghost use Rattle.std.specs.Option.{option_map_or};
 ghost use Rattle.csv.specs.Records.{fields_of};
-ghost use Rattle.tcc_rows.specs.{Lines.line_of, private.Turns.line_by, private.StagesAfter.stage_after_line, Line.Line};
+ghost use Rattle.tcc_rows.specs.{Lines.line_of, private.ControlRecords.line_by, private.StagesAfter.stage_after_line, Line.Line};
 ghost use Rattle.tcc_rows.specs.Past.{least, lesser, open_sessions, ops_since, writes_of};
-ghost use Rattle.tcc_rows.specs.Standing.{HoldsEnded, HoldsNames, HoldsSeats, IsAfter};
+ghost use Rattle.tcc_rows.specs.SessionStates.{HoldsEnded, HoldsNames, HoldsSeats, IsAfter};
 ghost use Rattle.tcc_rows.specs.private.Passing.{MayBegin, NotesName, PassesLine, PassesOperation, TakesLine, lower};
 ghost use Rattle.tcc_txn.specs.{Transactions.writes_zero, declared.limits.Limits.Limits};
 ghost use Rattle.tcc_rows.specs.declared.rows.Stage.TheVariants as stage;
@@ -12,7 +12,7 @@ ghost use Rattle.tcc_rows.specs.Line as line;
 
 use super::Item;
 use super::draft::Draft;
-use super::line::{Turn, field, read_access, read_op, read_session};
+use super::line::{ControlRecord, field, read_access, read_op, read_session};
 use super::seats::SeatTable;
 use crate::RowFaultKind;
 use csv::ByteRecord;
@@ -21,9 +21,9 @@ use std::collections::BTreeSet;
 use std::mem;
 use tcc_txn::{KeyHints, Limits, Name, Op, SymbolTable, Txn};
 
-/// The limits; each session with the operations of the transaction that it has begun; the sessions that have ended; the
-/// keys so far; how many transactions were begun and how many seals there were; the numbers of the keys of the transaction
-/// that was finished last.
+/// What the lines so far have done. These are the limits, each session with the operations of the transaction that it has
+/// begun, and the sessions that have ended. Then come the keys so far, how many transactions were begun and how many seals
+/// there were. The last field has the numbers of the keys of the transaction that was finished last.
 #[derive(Drop)]
 pub(crate) struct Progress {
     limits: Limits,
@@ -35,7 +35,7 @@ pub(crate) struct Progress {
     numbers: Vec<u32>,
 }
 
-/// The key is one of those so far, of which there are not too many. It has this number.
+/// The number of the key, which is added to the keys so far if it is new. It fails if that is one key too many.
 fn note_key(keys: &mut SymbolTable, key: Name, limits: Limits) -> Result<u32, RowFaultKind>
     ensures noted { (names : List (List ℕ)) → HoldsNames limits names keys.old → NotesName limits names key result keys.new }
     ensures other { IfErr result (λ kind. kind ≢ RowFaultKind.Read) }
@@ -63,7 +63,7 @@ fn note_ended(ended: &mut BTreeSet<Name>, session: Name) -> Result<(), RowFaultK
     }
 }
 
-/// Whether the session can begin a transaction, as far as the sessions go.
+/// Whether the session can begin a transaction, by the sessions so far.
 fn may_begin(sessions: &SeatTable, session: &Name, limits: Limits) -> Result<(), RowFaultKind>
     ensures may { (past : List Line) → HoldsSeats limits past sessions.now → MayBegin limits past session.now result }
     ensures other { IfErr result (λ kind. kind ≢ RowFaultKind.Read) }
@@ -86,7 +86,7 @@ fn may_begin(sessions: &SeatTable, session: &Name, limits: Limits) -> Result<(),
     }
 }
 
-/// The lesser of the two names, where there is another.
+/// The lesser of the two names, or that of the session if there is no other.
 fn lesser_of(name: Option<Name>, session: &Name) -> Name
     ensures { result ≡ option_map_or (λ other. lesser other session.now) name session.now }
 {
@@ -178,7 +178,7 @@ impl Progress {
         }
     }
 
-    /// The session's transaction ends, and nobody told how: what it wrote. So does the session.
+    /// The session's transaction ends with unknown outcome, and returns what it wrote. The session ends too.
     fn leave(&mut self, session: Name) -> Result<Txn, RowFaultKind>
         ensures passed { (limits : Limits) (past : List Line) → IsAfter limits past self.old
             → PassesLine limits past (line.Unknown session) result self.new }
@@ -225,7 +225,7 @@ impl Progress {
         }
     }
 
-    /// Goes past an operation, where four fields are one; `last` is the session of the one before.
+    /// Passes an operation, if the four fields are one. `last` is the session of the operation before.
     fn pass_fields(
         &mut self,
         last: &mut Option<Name>,
@@ -253,7 +253,7 @@ impl Progress {
         self.operate(session, op)
     }
 
-    /// Goes past a record of four fields, where it is an operation.
+    /// Passes a record of four fields, if it is an operation.
     pub(crate) fn pass_operation(
         &mut self,
         last: &mut Option<Name>,
@@ -273,26 +273,30 @@ impl Progress {
         )
     }
 
-    /// Goes past a record that is no operation, which may finish something.
-    pub(crate) fn pass(&mut self, alloc: Global, turn: Turn) -> Result<Option<Item>, RowFaultKind>
+    /// Passes a record that is not an operation, which may finish something.
+    pub(crate) fn pass(
+        &mut self,
+        alloc: Global,
+        turn: ControlRecord,
+    ) -> Result<Option<Item>, RowFaultKind>
         ensures passed { (limits : Limits) (past : List Line) → IsAfter limits past self.old → TakesLine limits past (line_by turn) result self.new }
         ensures going { IfOk result (λ given. stage_after_line given ≡ stage.Reading) }
         ensures other { IfErr result (λ kind. kind ≢ RowFaultKind.Read) }
     {
         match turn {
-            Turn::Seal => match self.seal() {
+            ControlRecord::Seal => match self.seal() {
                 Ok(()) => Ok(Some(Item::Seal)),
                 Err(kind) => Err(kind),
             },
-            Turn::Begin { session } => match self.begin(alloc, session) {
+            ControlRecord::Begin { session } => match self.begin(alloc, session) {
                 Ok(()) => Ok(None),
                 Err(kind) => Err(kind),
             },
-            Turn::Finish { session, committed } => match self.finish(session, committed) {
+            ControlRecord::Finish { session, committed } => match self.finish(session, committed) {
                 Ok(txn) => Ok(Some(Item::Finished(session, txn))),
                 Err(kind) => Err(kind),
             },
-            Turn::Unknown { session } => match self.leave(session) {
+            ControlRecord::Unknown { session } => match self.leave(session) {
                 Ok(txn) => Ok(Some(Item::Unknown(session, txn))),
                 Err(kind) => Err(kind),
             },

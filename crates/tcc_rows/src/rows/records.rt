@@ -35,7 +35,7 @@ pub(crate) struct Records<R> {
     stage: RecordsStage,
 }
 
-/// How many bytes there are, of which none is the mark of the limit.
+/// How many bytes there are, none of which is the mark of the limit.
 fn byte_count(bytes: &[u8]) -> usize
     ensures count { result ≡ length bytes.now }
     ensures unmarked { list_any (λ byte. byte == past_limit) bytes.now ≡ false }
@@ -43,7 +43,7 @@ fn byte_count(bytes: &[u8]) -> usize
     bytes.len()
 }
 
-/// What an error of `csv` is here.
+/// The kind of fault of a `csv` error.
 fn failure(error: &Error) -> RowFaultKind
     ensures { result ≡ failure_of (error_kind error.now) }
 {

@@ -1,5 +1,5 @@
 //! The sessions so far, each with the operations of the transaction that it has begun. A session has its number in a symbol
-//! table, so to find it takes one comparison of names mostly, and as many as the logarithm of their count at most.
+//! table. So finding it usually takes one comparison of names, and at most as many as the logarithm of their count.
 ghost use Rattle.std.specs.Prelude.{◌≡◌, ◌≢◌, ◌<◌, ◌+◌, ℕ, List, [], false, All, IfErr, MatchOption, None, OnOk, Some, if◌then◌else◌, is_some, length};
 ghost use Rattle.tcc_rows.specs.Seats.{seat_at};
 ghost use Rattle.tcc_rows.specs.private.Seating.{IsBegunAt, IsSeat, PutsOp, PutsSeat};
@@ -56,7 +56,7 @@ impl SeatTable {
         &self.seats
     }
 
-    /// The number of the session; none where it isn't there.
+    /// The number of the session; none if there is no such session.
     pub(crate) fn find(&self, session: &Name) -> Option<u32>
         ensures { MatchOption result (seat_at self.now session.now ≡ None) (IsSeat self.now session.now) }
     {
@@ -66,7 +66,7 @@ impl SeatTable {
         }
     }
 
-    /// Whether the session of the number has begun a transaction.
+    /// Whether the session with the number has begun a transaction.
     pub(crate) fn has_begun(&self, number: u32) -> bool
         requires { number < length self.now }
         ensures { (session : List ℕ) → IsSeat self.now session number → IsBegunAt self.now session result }
@@ -74,7 +74,7 @@ impl SeatTable {
         self.seats[number as usize].1.is_some()
     }
 
-    /// Puts a seat in the place of that of the session of the number, which is given.
+    /// Replaces the seat of the session with the number, and returns the old one.
     fn put(&mut self, number: u32, begun: Option<Draft>) -> Option<Draft>
         requires { number < length self.old }
         ensures given { (session : List ℕ) → IsSeat self.old session number → seat_at self.old session ≡ Some result }
@@ -84,7 +84,7 @@ impl SeatTable {
         mem::replace(&mut self.seats[number as usize].1, begun)
     }
 
-    /// One more session, behind the others.
+    /// One more session, after the others.
     fn push(&mut self, session: Name, draft: Draft) -> Result<(), NoMemory>
         requires { seat_at self.old session ≡ None }
         ensures put { OnOk result (PutsSeat self.old session (Some draft) self.new) }
@@ -101,7 +101,7 @@ impl SeatTable {
         }
     }
 
-    /// The session begins a transaction, of which it has this.
+    /// The session begins a transaction, with this draft.
     pub(crate) fn begin(&mut self, session: Name, draft: Draft) -> Result<(), NoMemory>
         ensures put { OnOk result (PutsSeat self.old session (Some draft) self.new) }
         ensures count { OnOk result (length self.new ≡ length self.old + (if is_some (seat_at self.old session) then 0 else 1)) }
@@ -115,7 +115,7 @@ impl SeatTable {
         }
     }
 
-    /// The transaction of the session of the number ends, if one is begun; its operations are given.
+    /// The transaction of the session with the number ends, if one is begun, and its operations are returned.
     pub(crate) fn end(&mut self, number: u32) -> Option<Draft>
         requires { number < length self.old }
         ensures given { (session : List ℕ) → IsSeat self.old session number → seat_at self.old session ≡ Some result }
@@ -125,7 +125,7 @@ impl SeatTable {
         self.put(number, None)
     }
 
-    /// One more operation of the session of the number, if it has begun a transaction.
+    /// One more operation of the session with the number, if it has begun a transaction.
     pub(crate) fn operate(&mut self, number: u32, op: Op) -> Result<(), RowFaultKind>
         requires within { number < length self.old }
         requires lawful { writes_zero op ≡ false }
@@ -136,7 +136,7 @@ impl SeatTable {
         add_operation(&mut self.seats[number as usize].1, op)
     }
 
-    /// The key of the last operation of the session of the number has this number among the keys.
+    /// The key of the last operation of the session with the number has this number among the keys.
     pub(crate) fn note(&mut self, number: u32, key: u32) -> Result<(), RowFaultKind>
         requires { number < length self.old }
         ensures kept { self.new ≡ self.old }

@@ -1,4 +1,4 @@
--- Which fault of a text stands for memory that was refused.
+-- Which fault of a text says that memory was refused.
 use Rattle.std.specs.Prelude.{Bool, true, false, if◌then◌else◌}
 use Rattle.tcc_cert.specs.declared.fault.CertFault.{CertFault}
 use Rattle.tcc_cert.specs.declared.fault.CertFaultKind.TheVariants as kind
@@ -10,6 +10,6 @@ abbrev pub is_want_of_memory : CertFaultKind → Bool
 is_want_of_memory kind.NoMemory = true
 is_want_of_memory _ = false
 
--- `NoMemory` stands by itself, and other faults with their lines
+-- `NoMemory` is a fault of its own, and other faults come with their lines
 abbrev pub fault_of : CertFault → StreamFault
 fault_of fault = if is_want_of_memory fault.kind then NoMemory else Text fault

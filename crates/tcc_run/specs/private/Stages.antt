@@ -16,33 +16,39 @@ use Rattle.tcc_explain.specs.Tabled.{with_tables}
 use Rattle.tcc_graph.specs.Levels.{judged}
 use Rattle.tcc_print.specs.Courses.{Contents, Gains, Said}
 use Rattle.tcc_print.specs.Saying.{Course}
-use Rattle.tcc_print.specs.declared.last.Last.{Last}
+use Rattle.tcc_print.specs.declared.previous.PreviousAnswer.{PreviousAnswer}
 use Rattle.tcc_print.specs.declared.status.Status.TheVariants.{Device}
 use Rattle.tcc_print.specs.declared.options.Options.{Options}
 use Rattle.tcc_run.specs.Runs.{GainsPart, IsSaidOfSnapshot}
-use Rattle.tcc_run.specs.declared.outcome.Outcome.{Outcome}
-use Rattle.tcc_run.specs.declared.outcome.Outcome.TheVariants as outcome
+use Rattle.tcc_run.specs.declared.outcome.ExplainOutcome.{ExplainOutcome}
+use Rattle.tcc_run.specs.declared.outcome.ExplainOutcome.TheVariants as outcome
 use Rattle.tcc_print.specs.Statuses.{code_of, last_status}
 use Rattle.tcc_print.specs.Printed.{Prints, answered, device_line, unresolved}
 use Rattle.tcc_reads.specs.Sources.{history}
 
 -- ---- one answer
 
--- what is to be said of a snapshot at a level: its first answer where all its reads have sources, be it without tables; else all its
+-- what is to be said about a snapshot at a level: its first answer where all its reads have sources, perhaps without tables; else all its
 -- read faults
-abbrev pub IsOutcome : Level → Sessions → Outcome → Type 0
+abbrev pub IsOutcome : Level → Sessions → ExplainOutcome → Type 0
 IsOutcome level s (outcome.Tabled a) = IsAnswerOfSnapshot s level a
 IsOutcome level s (outcome.Bare h a) = (read_faults s ≡ []) × (h ≡ history s) × IsBareAnswer (judged h level) a
 IsOutcome level s (outcome.Unresolved faults earlier) = (read_faults s ≢ []) × (faults.items ≡ read_faults s)
 
--- the answer, with the tables that the history gives it where nobody worked them out; none where there are read faults in its place
-abbrev pub answer_in : Outcome → Option Answer
+-- the answer, with the tables that the history gives where none were worked out; none where there are read faults in its place
+abbrev pub answer_in : ExplainOutcome → Option Answer
 answer_in (outcome.Tabled a) = Some a
 answer_in (outcome.Bare h a) = Some (with_tables h a)
 answer_in (outcome.Unresolved faults earlier) = None
 
--- the last anomaly, of this answer or of one before read faults, by which the next tables are searched; none where there was none
-abbrev pub anomaly_in : Outcome → Option LabelledCycle
+-- the answer, as it was found; none where there are read faults instead
+abbrev pub outcome_answer : ExplainOutcome → Option Answer
+outcome_answer (outcome.Tabled a) = Some a
+outcome_answer (outcome.Bare h a) = Some a
+outcome_answer (outcome.Unresolved faults earlier) = None
+
+-- the last anomaly, by which the next tables are searched: that of this answer, or of one before read faults; none where there was none
+abbrev pub anomaly_in : ExplainOutcome → Option LabelledCycle
 anomaly_in (outcome.Tabled (answer.Commit c)) = None
 anomaly_in (outcome.Tabled (answer.Anomaly a)) = Some a
 anomaly_in (outcome.Bare h a) = None
@@ -53,15 +59,15 @@ abbrev pub IsEarlier : Level → Sessions → LabelledCycle → Type 0
 IsEarlier level s a = (small : Sessions) × IsNested small s × (read_faults small ≡ []) × IsAnomalyOf (judged (history small) level) a
 
 -- the last anomaly, if there was one, is one of a snapshot that this one continues
-abbrev pub HasEarlier : Level → Sessions → Outcome → Type 0
+abbrev pub HasEarlier : Level → Sessions → ExplainOutcome → Type 0
 HasEarlier level s o = IfSome (anomaly_in o) (IsEarlier level s)
 
--- what was said last was said of a snapshot that this one continues, as far as an anomaly goes
-abbrev pub Follows : Level → Sessions → Last Outcome → Type 0
+-- what was said last was said about a snapshot that this one continues, as far as an anomaly is concerned
+abbrev pub Follows : Level → Sessions → PreviousAnswer ExplainOutcome → Type 0
 Follows level s last = HasEarlier level s last.outcome
 
 -- an answer has its tables where a certificate is wanted, and only there
-abbrev pub IsCertifiable : Bool → Outcome → Type 0
+abbrev pub IsCertifiable : Bool → ExplainOutcome → Type 0
 IsCertifiable is_certified (outcome.Tabled a) = is_certified ≡ true
 IsCertifiable is_certified (outcome.Bare h a) = is_certified ≡ false
 IsCertifiable is_certified (outcome.Unresolved faults earlier) = Unit {0}
@@ -70,13 +76,13 @@ IsCertifiable is_certified (outcome.Unresolved faults earlier) = Unit {0}
 abbrev pub certificate_kept : Option Answer → Option (List ℕ)
 certificate_kept kept = option_map (λ a. certificate_text (certificate_of a)) kept
 
--- how it goes out, and how a run ends whose last answer it is
-abbrev pub outcome_text : Bool → Outcome → List ℕ
+-- its text, and how a run ends whose last answer it is
+abbrev pub outcome_text : Bool → ExplainOutcome → List ℕ
 outcome_text json (outcome.Tabled a) = answered json a
 outcome_text json (outcome.Bare h a) = answered json a
 outcome_text json (outcome.Unresolved faults earlier) = unresolved json faults.items
 
-abbrev pub outcome_said : Options → Outcome → Said
+abbrev pub outcome_said : Options → ExplainOutcome → Said
 outcome_said options o = record {
   text = outcome_text options.json o;
   status = last_status options.required (answer_in o);
@@ -84,21 +90,21 @@ outcome_said options o = record {
 }
 
 -- the course of a run
-abbrev pub course : Options → Course Outcome
+abbrev pub course : Options → Course ExplainOutcome
 course options =
     record { limits = Small; options = options; is_said = IsSaidOfSnapshot options; is_outcome = IsOutcome options.level; say = outcome_said options }
 
 -- ---- the certificate
 
--- the certificate that is kept went into the file, if one is given; nothing where none is kept
+-- the certificate that is kept was written to the file, if one is given; nothing where none is kept
 abbrev pub GainsKept : Option Answer → Contents → Contents → Type 0
 GainsKept kept file file' = Gains file file' (unwrap_or (certificate_kept kept) [])
 
--- one is kept, a file is given for it, and a part of it went there, from its front
+-- one is kept, a file is given for it, and a part of it, from its front, was written there
 abbrev pub GainsKeptPart : Option Answer → Contents → Contents → Type 0
 GainsKeptPart kept file file' = (text : List ℕ) × (certificate_kept kept ≡ Some text) × GainsPart file file' text
 
--- nothing more is said, and the file gets the certificate that is kept; or a write to it fails, which is said
+-- nothing more is said, and the certificate that is kept is written to the file; or a write to it fails, which is said
 abbrev pub Concludes : Options → Option Answer → Option (List ℕ) → Option (List ℕ) → Contents → Contents → ℕ → Type 0
 Concludes options kept before after file file' code =
     ((after ≡ before) × GainsKept kept file file' × (code ≡ code_of (last_status options.required kept)))

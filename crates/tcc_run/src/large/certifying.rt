@@ -1,31 +1,30 @@
-//! The certificate of what was said last: in version 2 within the small limits, in version 3 past them.
+//! The certificate of what was said last: in version 2 within the small limits, in version 3 above them.
 ghost use Rattle.std.specs.Prelude.{is_some, option_map, true};
 ghost use Rattle.tcc_run.specs.private.LargeStages.{IsCertifiable, SendsCertificate, WritesCertificate, outcome_certificate, outcome_said};
 
-use crate::large::outcome::Outcome;
+use crate::large::outcome::LargeOutcome;
 use std::io::Write;
 use tcc_cert::{CertWriteFault, write_large};
 use tcc_print::Options;
 use tcc_print::printing::print_device;
 
 /// Writes the certificate of what is said.
-fn send_certificate<C: Write>(outcome: &Outcome, file: &mut C) -> Result<(), CertWriteFault>
+fn send_certificate<C: Write>(outcome: &LargeOutcome, file: &mut C) -> Result<(), CertWriteFault>
     requires { IsCertifiable true outcome.now }
     ensures { SendsCertificate (outcome_certificate outcome.now) result (C.contents file.old) (C.contents file.new) }
 {
     match outcome {
-        Outcome::Unresolved(_) => Ok(()),
-        Outcome::Tabled(answer) => answer.write_certificate(file),
-        Outcome::Bare { .. } => unreachable!(),
-        Outcome::Large { claim, .. } => write_large(claim, file),
+        LargeOutcome::Unresolved(_) => Ok(()),
+        LargeOutcome::Tabled(answer) => answer.write_certificate(file),
+        LargeOutcome::Bare { .. } => unreachable!(),
+        LargeOutcome::Large { claim, .. } => write_large(claim, file),
     }
 }
 
-/// Writes the certificate of what was said last, if a file is given for it and that is an answer; else the run ends with this
-/// number.
+/// Writes the certificate of what was said last, if a file is given for it and that is an answer; else the run ends with this exit code.
 pub(crate) fn write_certificate<W: Write, C: Write>(
     options: &Options,
-    outcome: &Outcome,
+    outcome: &LargeOutcome,
     certificate: &mut Option<C>,
     out: &mut W,
 ) -> Result<(), u8>

@@ -1,4 +1,4 @@
-//! What the first cycle of a large history claims: its links, and that no cycle has fewer steps, as far as the judge takes that.
+//! What the first cycle of a large history claims: its links, and that no cycle has fewer steps, as far as the judge accepts that.
 ghost use Rattle.std.specs.Prelude.{◌≡◌, [], IfOk};
 ghost use Rattle.tcc_judge.specs.Claims.{links_claim_of};
 ghost use Rattle.tcc_run.specs.private.LargeStages.{IsCycleClaim, IsLongClaim};
@@ -10,7 +10,7 @@ use tcc_cert::{Links, LinksClaim, Runs};
 use tcc_graph::{LargeGraph, Level, Link};
 use tcc_txn::NoMemory;
 
-/// Up to so many steps a cycle is claimed to be a least one without runs.
+/// Up to this many steps a cycle is claimed to be a least one without runs.
 const SHORT: u32 = 4;
 
 /// No runs.
@@ -41,7 +41,7 @@ fn links_claim(
     })
 }
 
-/// The claim of a cycle of more than four steps: that no cycle has fewer, where the judge takes that by the order; else that it is a
+/// The claim of a cycle of more than four steps: that no cycle has fewer, where the judge accepts that by the order; else that it is a
 /// cycle.
 fn long_claim(
     alloc: Global,
@@ -60,8 +60,8 @@ fn long_claim(
     links_claim(alloc, graph, level, links, None)
 }
 
-/// The claim of a least cycle, for whose text there is room: up to four steps that no cycle has fewer, for which no runs are needed; past
-/// them that too, where the judge takes it by the order.
+/// The claim of a least cycle, for whose text there is room. Up to four steps it claims that no cycle has fewer, for which no runs are
+/// needed. Above that it claims so too, where the judge accepts it by the order.
 pub(crate) fn cycle_claim(
     alloc: Global,
     graph: &LargeGraph,

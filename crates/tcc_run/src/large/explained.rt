@@ -1,37 +1,40 @@
-//! What a run says of a snapshot, for who says it elsewhere.
+//! What a run says about a snapshot, for programs that print it elsewhere.
 ghost use Rattle.std.specs.Prelude.{◌≡◌, IfOk};
+ghost use Rattle.tcc_print.specs.{Courses.AreSaidFaults, declared.options.Options.Options};
 ghost use Rattle.tcc_run.specs.{LargeRuns.IsExplained, private.LargeStages.outcome_said};
 
-use crate::large::outcome::Outcome;
+use crate::large::outcome::LargeOutcome;
 use crate::large::running::decide;
 use crate::large::watching::Watcher;
 use std::alloc::Global;
 use std::thread::Threads;
-use tcc_print::{Options, RunContext, Statement, Status};
+use tcc_print::{Options, Printable, RunContext, Status};
 use tcc_reads::ReadFault;
 use tcc_txn::{LargeSnapshot, NoMemory};
 
-/// What is said of a snapshot.
+/// What is said about a snapshot.
 #[derive(Drop)]
 pub struct Explained {
-    /// As it goes out.
+    /// Its text.
     pub text: Vec<u8>,
-    /// How a run ends whose last text it is.
+    /// How a run ends whose last text this is.
     pub status: Status,
-    /// The read faults that it tells; none where it tells an answer.
+    /// The read faults that it reports; none where it reports an answer.
     pub faults: Vec<ReadFault>,
 }
 
-/// The read faults that are told.
-fn faults_of(alloc: Global, outcome: Outcome) -> Vec<ReadFault> {
+/// The read faults that are reported.
+fn faults_of(alloc: Global, outcome: LargeOutcome) -> Vec<ReadFault>
+    ensures { (options : Options) → AreSaidFaults options (outcome_said options outcome) result.items }
+{
     match outcome {
-        Outcome::Unresolved(faults) => faults,
+        LargeOutcome::Unresolved(faults) => faults,
         _ => Vec::new(alloc),
     }
 }
 
-/// How an outcome goes out.
-fn text_of(alloc: Global, options: &Options, outcome: &Outcome) -> Result<Vec<u8>, NoMemory>
+/// The text of an outcome.
+fn text_of(alloc: Global, options: &Options, outcome: &LargeOutcome) -> Result<Vec<u8>, NoMemory>
     ensures { IfOk result (λ text. text.items ≡ (outcome_said options.now outcome.now).text) }
 {
     let mut text = Vec::new(alloc);
@@ -41,7 +44,7 @@ fn text_of(alloc: Global, options: &Options, outcome: &Outcome) -> Result<Vec<u8
     }
 }
 
-/// What `run_large` says of a snapshot, with no certificate.
+/// What `run_large` says about a snapshot, with no certificate.
 pub fn explain_large_snapshot<T: Threads + Sync, G: Watcher>(
     run: &RunContext<T, G>,
     snapshot: &LargeSnapshot,

@@ -1,5 +1,5 @@
-//! The laws of runs of `explain --large`: what is claimed is accepted, and the check accepts what was written, in bytes; and what
-//! the small limits take is answered as without `--large`.
+//! The laws of runs of `explain --large`. What is claimed is accepted, and the check accepts what was written, in bytes. What is within the
+//! small limits is answered as without `--large`.
 ghost use Rattle.std.specs.Prelude.{◌≡◌, ◌≢◌, ◌↔◌, ℕ, List, Option, None, Some, []};
 ghost use Rattle.tcc_txn.specs.{Finished.KeepsLimits, Snapshots.Sessions, declared.limits.Limits.TheVariants.Small, declared.limits.Limits.TheVariants.Large};
 ghost use Rattle.tcc_rows.specs.{Answers.answers_within, BothLimits.KeepsSmall};
@@ -20,7 +20,7 @@ use tcc_judge::laws::{kept, own_cycle, own_order, own_short};
 use tcc_rows::laws::finished_is_snapshot;
 use tcc_verdict::large::laws::accepted;
 
-/// Whatever a run says of a large history, its certificate is the text of a claim that keeps all rules: so the verdict on it is
+/// Whatever a run says about a large history, its certificate is the text of a claim that keeps all rules: so the verdict on it is
 /// `Accepted`, and no other.
 pub fn own_certificate(graph: &LargeGraph)
     ensures { (options : Options) (claim : LargeCertificate) (said : Said) → IsClaimedOf options graph.now claim said → IsAcceptedOf graph.now said }
@@ -31,7 +31,7 @@ pub fn own_certificate(graph: &LargeGraph)
     kept();
 }
 
-/// What is claimed by a text that a check accepts is true, what keeps all rules is accepted, and a text that was written is read as it.
+/// What is claimed by a text that a check accepts is true, what keeps all rules is accepted, and a text that was written is read as it was.
 fn checks()
     ensures { Laws }
 {
@@ -43,11 +43,11 @@ fn checks()
     own_short();
 }
 
-/// The main theorem in bytes, with `--large`. Of records without a fault, whose reads all have sources, a run that ends neither by a
-/// device that failed nor out of memory prints last what is answered for all that they finish, and its certificate; and the check of
-/// the same records accepts that certificate: it prints `accepted: ..` and ends with 0, unless a device fails or memory is out. And
-/// whatever the records are: what a run leaves in a file for the certificate that was empty, and is not empty then, the check of the
-/// same records accepts, where the status doesn't say that a device failed.
+/// The main theorem in bytes, with `--large`. Take records without a fault, whose reads all have sources. A run that ends neither by a
+/// device that failed nor out of memory prints last the answer for all that they finish, and its certificate. The check of the same records
+/// accepts that certificate: it prints `accepted: ..` and ends with 0, unless a device fails or memory is out. And whatever the records
+/// are, take what a run leaves in a file for the certificate that was empty, and is not empty then. The check of the same records accepts
+/// it, where the status doesn't say that a device failed.
 pub fn headline()
     ensures last { (options : Options) (records : List ℕ) (before after : Option (List ℕ)) (files files' : Files) (code : ℕ)
         → (answers_of records).fault ≡ None → read_faults (finished records) ≡ []
@@ -61,8 +61,8 @@ pub fn headline()
     checks();
 }
 
-/// What is said of a snapshot of any size is one text with one status, whatever the number of workers, the order in which they search and
-/// the memory that there is; so is all that runs say of the same bytes which no reader and no refused memory ends.
+/// What is said about a snapshot of any size is one text with one status, whatever the number of workers, the order in which they search
+/// and the memory that there is. So is all that runs say about the same bytes, if no reader and no refused memory ends them.
 pub fn one_text()
     ensures snapshot { (options others : Options) (s : Sessions) (said again : Said) → AskAlike options others → IsSaidWithLarge options s said
         → IsSaidWithLarge others s again → (said.text ≡ again.text) × (said.status ≡ again.status) }
@@ -73,11 +73,11 @@ pub fn one_text()
     one_answer();
 }
 
-/// Of a snapshot that keeps the small limits the same is said with `--large` as without it. So it is of records that keep them, as
-/// each text does that has no fault within them: a run with `--large` says, be it to the end or to what ended it, what a run without it
-/// may say, and nothing else; and what is said to the end is the same in both, for every number of workers. What a run with `--large`
-/// that ends neither by a device that failed nor out of memory puts out, writes as a certificate and ends with, a run without it may
-/// too; and so may a run with `--large` whatever one without it does, where no file is given for a slice.
+/// About a snapshot that keeps the small limits the same is said with `--large` as without it. The same holds for records that keep them,
+/// as each text does that has no fault within them. A run with `--large` says, to the end or to what ended it, only what a run without it
+/// may say. What is said to the end is the same in both, for every number of workers. Take a run with `--large` that ends neither by a
+/// device that failed nor out of memory. What it prints, writes as a certificate and ends with, a run without it may too. A run with
+/// `--large` may do whatever one without it does, where no file is given for a slice.
 pub fn within_small()
     ensures snapshot { (options : Options) (s : Sessions) (said : Said) → KeepsLimits s
         → IsSaidWithLarge options s said ↔ IsSaidOfSnapshot options s said }

@@ -1,7 +1,7 @@
 //! Whether version 3 of the text has room for what is claimed: its numbers, its counts and its costs have ranges.
 ghost use Rattle.std.specs.Prelude.{All, IfOk, IsTrue, List, Option, length, ℕ};
 ghost use Rattle.tcc_graph.specs.{Levels.judged, Orders.IsCommitOrder, declared.level.Level.Level};
-ghost use Rattle.tcc_cert.specs.{RunsTold.order_claim_of, declared.large.Run.Run, declared.ranges.Scale.TheVariants.Large};
+ghost use Rattle.tcc_cert.specs.{RunsTold.order_claim_of, declared.large.Run.Run, declared.ranges.TextFormat.TheVariants.Large};
 ghost use Rattle.tcc_cert.specs.LargeTexts.{HasLeastText, HasLinksClaimText, HasRunsClaimText};
 ghost use Rattle.tcc_cert.specs.Texts.{HasLinkText, HasStepText, IsCount};
 ghost use Rattle.tcc_judge.specs.Claims.{links_claim_of};
@@ -17,7 +17,7 @@ fn has_step_text(step: &Step) -> bool
     ensures { IsTrue result → HasStepText Large step.now }
 {
     if let Step::Reads { key, .. } = step {
-        // A key is a name, as this call says.
+        // This call ensures that a key is a name.
         let _name = key.bytes();
     }
     step.from() <= V3_MAX_NUMBER && step.to() <= V3_MAX_NUMBER
@@ -64,12 +64,12 @@ fn have_links_text(links: &[Link]) -> bool
         && links.iter().all(|link| has_link_text(link))
 }
 
-/// The claim of a cycle has a text, where the runs beside it do: links for which there is none are more than memory holds.
+/// The claim of a cycle has a text, where the runs beside it do: memory cannot hold as many links as have none.
 pub(crate) fn check_room(graph: &LargeGraph, links: &[Link]) -> Result<(), NoMemory>
     ensures { (level : Level) (least : Option (List Run)) → HasLeastText least
         → IfOk result (λ _. HasLinksClaimText (links_claim_of level graph.now links.now least)) }
 {
-    // How large a history is, as this call says.
+    // This call says how large a history is.
     graph.count();
     if !have_links_text(links) {
         return Err(NoMemory);
@@ -78,7 +78,7 @@ pub(crate) fn check_room(graph: &LargeGraph, links: &[Link]) -> Result<(), NoMem
     Ok(())
 }
 
-/// The claim of an order has a text, as these calls say.
+/// These calls ensure that the claim of an order has a text.
 pub(crate) fn has_order_room(graph: &LargeGraph)
     ensures { (level : Level) (order : List ℕ) → IsCommitOrder (judged graph.now level) order → HasRunsClaimText (order_claim_of level graph.now order) }
 {

@@ -1,14 +1,14 @@
 //! From the bytes of records to their answers with `--large`: at each seal, and at the end.
 ghost use Rattle.std.specs.Prelude.{◌≡◌, ℕ, List, [], None, Some, IfErr, IfOk, IfSome, MatchResult, OnOk, is_some, option_map};
 ghost use Rattle.tcc_rows.specs.{Ahead.fault_met, Answers.Answers, Answers.answers_to, Lines.Record, Reached.IsWithin, declared.rows.Item.Item};
-ghost use Rattle.tcc_rows.specs.Recordings.{FailsBehind, IsRecording, TakesMoment, after_items};
+ghost use Rattle.tcc_rows.specs.Recordings.{FailsBehind, IsRecording, TakesCheckpoint, after_items};
 ghost use Rattle.tcc_txn.specs.declared.limits.Limits.TheVariants.{Large};
 ghost use Rattle.tcc_run.specs.LargeRuns.{IsLargeRun, answers_of, finished, records_of};
 ghost use Rattle.tcc_run.specs.private.LargeStages.{Concludes, IsCertifiable, IsOutcome, SendsSlice, WritesFiles, WritesSlice, course, outcome_links, outcome_said};
 ghost use Rattle.tcc_print.specs.{Saying.IsTold, Saying.SaysAt, private.Courses.AllAnswered, private.Courses.EndsEarly};
 
 use crate::large::certifying::write_certificate;
-use crate::large::outcome::Outcome;
+use crate::large::outcome::LargeOutcome;
 use crate::large::slice_records::slice_text;
 use crate::large::watching::{Stage, Watcher};
 use std::alloc::Global;
@@ -18,60 +18,61 @@ use tcc_base::send;
 use tcc_graph::Link;
 use tcc_print::notes::{note_last, note_no_slice};
 use tcc_print::printing::{print_device, print_endless, print_memory};
-use tcc_print::{Last, Options, RunContext, again, say_again, say_anew};
-use tcc_rows::{LargeRecording, Moment, RowFault, RowFaultKind};
+use tcc_print::{Options, PreviousAnswer, RunContext, print_new, print_unchanged, unchanged};
+use tcc_rows::{Checkpoint, LargeRecording, RowFault, RowFaultKind};
 use tcc_txn::{LargeSnapshot, NoMemory};
 use tcc_verdict::stop;
 
-/// What is to be said of the snapshot, and whether its certificate may be wanted; the watcher is told of it while it is decided.
+/// What is to be said about the snapshot, and whether its certificate may be wanted; the watcher is called when this begins and when it
+/// ends.
 pub(crate) fn decide<T: Threads + Sync, G: Watcher>(
     run: &RunContext<T, G>,
     snapshot: &LargeSnapshot,
     is_certified: bool,
-) -> Result<Outcome, NoMemory>
+) -> Result<LargeOutcome, NoMemory>
     ensures told { IfOk result (IsTold (course run.now.options.now) snapshot.now) }
     ensures certifiable { IfOk result (IsCertifiable is_certified) }
 {
     run.gate.begin(Stage::Deciding);
-    let decided = Outcome::of(run, snapshot, is_certified);
+    let decided = LargeOutcome::of(run, snapshot, is_certified);
     run.gate.end();
     decided
 }
 
-/// Says at a moment of the recording what is to be said of the snapshot, and keeps it: what was said last, if nothing was finished
-/// since. Else the run ends with this number.
-fn say<T: Threads + Sync, W: Write, N: Write, G: Watcher>(
+/// Says at a checkpoint of the recording what is to be said about the snapshot, and keeps it: what was said last, if nothing was finished
+/// since. Else the run ends with this exit code.
+fn answer_checkpoint<T: Threads + Sync, W: Write, N: Write, G: Watcher>(
     run: &RunContext<T, G>,
-    moment: Moment,
+    checkpoint: Checkpoint,
     snapshot: &LargeSnapshot,
-    last: Option<Last<Outcome>>,
+    last: Option<PreviousAnswer<LargeOutcome>>,
     is_certified: bool,
     out: &mut W,
     notes: &mut N,
-) -> Result<Last<Outcome>, u8>
+) -> Result<PreviousAnswer<LargeOutcome>, u8>
     requires { IfSome last (λ last. IsCertifiable is_certified last.outcome) }
     ensures certifiable { IfOk result (λ last. IsCertifiable is_certified last.outcome) }
-    ensures said { SaysAt (course run.now.options.now) moment snapshot.now last (W.contents out.old) (W.contents out.new) result }
+    ensures said { SaysAt (course run.now.options.now) checkpoint snapshot.now last (W.contents out.old) (W.contents out.new) result }
 {
-    match again(last, snapshot.transactions()) {
-        Ok(last) => say_again(run, moment, snapshot, last, out, notes),
+    match unchanged(last, snapshot.transactions()) {
+        Ok(last) => print_unchanged(run, checkpoint, snapshot, last, out, notes),
         Err(earlier) => {
             // One answer is held at a time.
             drop(earlier);
             let decided = decide(run, snapshot, is_certified);
-            say_anew(run, snapshot, decided, out, notes)
+            print_new(run, snapshot, decided, out, notes)
         }
     }
 }
 
-/// Reads on to the next seal or to the end, which the watcher is told.
+/// Reads on to the next seal or to the end; the watcher is called when this begins and when it ends.
 fn read_on<R: Read + Drop, G: Watcher>(
     alloc: Global,
     recording: &mut LargeRecording<R>,
     watcher: &G,
-) -> Result<Moment, RowFault>
-    ensures moment { (taken : List Item) (ahead : Answers) → IsRecording Large R.remaining recording.old taken ahead
-        → TakesMoment Large R.remaining taken ahead result recording.new }
+) -> Result<Checkpoint, RowFault>
+    ensures checkpoint { (taken : List Item) (ahead : Answers) → IsRecording Large R.remaining recording.old taken ahead
+        → TakesCheckpoint Large R.remaining taken ahead result recording.new }
     ensures within { (all : List Record) → IsWithin R.remaining recording.old.rows all → IsWithin R.remaining recording.new.rows all }
     ensures failed { IfErr result (λ fault. fault_met recording.old.rows ≡ None → fault.kind ≡ RowFaultKind.Read
         → (all : List Record) (taken : List Item) (ahead : Answers) → answers_to Large all ≡ after_items taken ahead
@@ -80,20 +81,20 @@ fn read_on<R: Read + Drop, G: Watcher>(
     ensures goes_on { OnOk result (fault_met recording.new.rows ≡ None) }
 {
     watcher.begin(Stage::Reading);
-    let moment = recording.advance(alloc);
+    let checkpoint = recording.advance(alloc);
     watcher.end();
-    moment
+    checkpoint
 }
 
-/// Writes the answers at the seals that are still to come and the one at the end, if it is due, and gives what was said last;
-/// or writes what ends the run before, and gives the number that it ends with.
+/// Writes the answers at the seals that are still to come and the one at the end, if it is due, and returns what was said last. Or it
+/// writes what ends the run before, and returns the exit code.
 fn answer_all<R: Read + Drop, T: Threads + Sync, W: Write, N: Write, G: Watcher>(
     run: &RunContext<T, G>,
     recording: &mut LargeRecording<R>,
     is_certified: bool,
     out: &mut W,
     notes: &mut N,
-) -> Result<Last<Outcome>, u8>
+) -> Result<PreviousAnswer<LargeOutcome>, u8>
     ensures certifiable { IfOk result (λ last. IsCertifiable is_certified last.outcome) }
     ensures answers { (bytes : List ℕ) → IsRecording Large R.remaining recording.old [] (answers_of bytes) → IsWithin R.remaining recording.old.rows (records_of bytes)
         → fault_met recording.old.rows ≡ None
@@ -102,22 +103,22 @@ fn answer_all<R: Read + Drop, T: Threads + Sync, W: Write, N: Write, G: Watcher>
     ensures finished { (bytes : List ℕ) → IsRecording Large R.remaining recording.old [] (answers_of bytes)
         → OnOk result (recording.new.snapshot ≡ finished bytes) }
 {
-    let mut last: Option<Last<Outcome>> = None;
-    'moments: for _turn in 0..u64::MAX {
+    let mut last: Option<PreviousAnswer<LargeOutcome>> = None;
+    'checkpoints: for _turn in 0..u64::MAX {
         match read_on(run.alloc, recording, run.gate) {
-            Ok(moment) => {
-                let said = say(
+            Ok(checkpoint) => {
+                let said = answer_checkpoint(
                     run,
-                    moment,
+                    checkpoint,
                     recording.snapshot(),
                     last,
                     is_certified,
                     out,
                     notes,
                 )?;
-                match moment {
-                    Moment::Seal => last = Some(said),
-                    Moment::End => return Ok(said),
+                match checkpoint {
+                    Checkpoint::Seal => last = Some(said),
+                    Checkpoint::End => return Ok(said),
                 }
             }
             Err(fault) => {
@@ -128,11 +129,11 @@ fn answer_all<R: Read + Drop, T: Threads + Sync, W: Write, N: Write, G: Watcher>
     Err(print_endless(out, run.options.json))
 }
 
-/// Writes the slice by the links of what was said, if it is within the small limits; else the run ends with this number.
+/// Writes the slice by the links of what was said, if it is within the small limits; else the run ends with this exit code.
 fn send_slice<T, W: Write, S: Write, N: Write, G: Watcher>(
     run: &RunContext<T, G>,
     snapshot: &LargeSnapshot,
-    outcome: &Outcome,
+    outcome: &LargeOutcome,
     links: &[Link],
     file: &mut S,
     out: &mut W,
@@ -157,11 +158,11 @@ fn send_slice<T, W: Write, S: Write, N: Write, G: Watcher>(
     }
 }
 
-/// Writes the slice of what was said, if that is an anomaly and a file is given for it; else the run ends with this number.
+/// Writes the slice of what was said, if that is an anomaly and a file is given for it; else the run ends with this exit code.
 fn write_slice<T, W: Write, S: Write, N: Write, G: Watcher>(
     run: &RunContext<T, G>,
     snapshot: &LargeSnapshot,
-    outcome: &Outcome,
+    outcome: &LargeOutcome,
     slice: &mut Option<S>,
     out: &mut W,
     notes: &mut N,
@@ -179,12 +180,12 @@ fn write_slice<T, W: Write, S: Write, N: Write, G: Watcher>(
     }
 }
 
-/// Writes the certificate of what was said, if that is an answer and a file is given for it, and then its slice, if it is an
-/// anomaly and a file is given for that; else the run ends with this number.
+/// Writes the certificate of what was said, if that is an answer and a file is given for it. Then it writes its slice, if that is an
+/// anomaly and a file is given for the slice. Else the run ends with this exit code.
 fn write_files<T, W: Write, C: Write, S: Write, N: Write, G: Watcher>(
     run: &RunContext<T, G>,
     snapshot: &LargeSnapshot,
-    outcome: &Outcome,
+    outcome: &LargeOutcome,
     certificate: &mut Option<C>,
     slice: &mut Option<S>,
     out: &mut W,
@@ -200,12 +201,12 @@ fn write_files<T, W: Write, C: Write, S: Write, N: Write, G: Watcher>(
     write_slice(run, snapshot, outcome, slice, out, notes)
 }
 
-/// Writes the certificate and the slice of what was said last, if files are given for them, and gives the number that the run
-/// ends with. Where an order has fewer transactions than are required, this is noted.
+/// Writes the certificate and the slice of what was said last, if files are given for them, and returns the exit code of the run. Where an
+/// order has fewer transactions than are required, this is noted.
 fn conclude<T, W: Write, C: Write, S: Write, N: Write, G: Watcher>(
     run: &RunContext<T, G>,
     snapshot: &LargeSnapshot,
-    last: Last<Outcome>,
+    last: PreviousAnswer<LargeOutcome>,
     certificate: &mut Option<C>,
     slice: &mut Option<S>,
     out: &mut W,
@@ -265,16 +266,18 @@ fn run_recording<
     }
 }
 
-/// Writes an answer at the level for what was finished before each seal of the bytes of the reader, and before their end, as
-/// text or as lines of JSON, and gives the number that the run ends with. Records are taken up to the large limits; where what
-/// was finished is within the small ones, the answer is the same as without them, and the same for every number of workers; the
-/// watcher, which is told what the run does, is their gate. Behind the last answer its certificate goes into the first file, if it
-/// is given: within the small limits in version 2, past them in version 3. Where the last answer is an anomaly, the records of its
-/// slice go into the second, if it is given: of a small history that is this one with transactions and operations left out, and
-/// has this anomaly and nothing that it doesn't need; or nothing, where the anomaly needs more than the small limits allow. What a person may
-/// want to know besides, who reads the standard error, goes to the notes.
+/// Writes an answer at the level for what was finished before each seal of the bytes of the reader, and before their end, as text or as
+/// lines of JSON. Returns the exit code of the run. Records are accepted up to the large limits. Where what was finished is within the
+/// small ones, the answer is the same as without the large ones, and the same for every number of workers. The watcher is called at each
+/// stage of the run, and is the gate of the workers.
 ///
-/// The files are empty before: nothing goes into them where the last answer is that reads have faults, or where the run ends by a
+/// After the last answer its certificate is written to the first file, if it is given: within the small limits in version 2, above them in
+/// version 3. Where the last answer is an anomaly, the records of its slice are written to the second file, if it is given. The slice is a
+/// small history that is this one with transactions and operations left out; it has this anomaly and nothing that the anomaly doesn't need.
+/// Nothing is written where the anomaly needs more than the small limits allow. Notes for a person who reads the standard error are written
+/// to `notes`.
+///
+/// The files are empty before: nothing is written to them where the last answer is that reads have faults, or where the run ends by a
 /// fault.
 pub fn run_large<R: Read + Drop, W: Write, C: Write, S: Write, N: Write, G: Watcher>(
     rt: &(impl Threads + Sync),

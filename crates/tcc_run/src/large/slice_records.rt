@@ -1,10 +1,10 @@
-//! The slice of an anomaly: the records of a small history that has it. They are read back before they go out.
+//! The slice of an anomaly: the records of a small history that has it. They are read back before they are written.
 ghost use Rattle.std.specs.Prelude.{◌≡◌, ◌≢◌, ◌↔◌, [], IfOk, IsTrue, MatchOption, Some, option_map};
 ghost use Rattle.tcc_reads.specs.{Faults.read_faults, Sources.history};
 ghost use Rattle.tcc_graph.specs.{Levels.judged, Routes.AreCycle};
 ghost use Rattle.tcc_run.specs.{LargeRuns.Finishes, private.LargeStages.IsOutcome, private.LargeStages.IsSliceMade, private.LargeStages.outcome_links};
 
-use crate::large::outcome::Outcome;
+use crate::large::outcome::LargeOutcome;
 use std::alloc::Global;
 use tcc_graph::{LargeGraph, Level, Link};
 use tcc_reads::{ResolveFault, resolve_large};
@@ -18,7 +18,7 @@ fn is_read_back(alloc: Global, text: &[u8], snapshot: &Snapshot) -> Result<bool,
 {
     match snapshot_of(alloc, text) {
         Ok(read) => Ok(read.is_same(snapshot)),
-        // Bytes in memory are no device: reading them fails for want of memory alone.
+        // Bytes in memory are no device: reading them fails only for want of memory.
         Err(fault) if matches!(fault.kind, RowFaultKind::NoMemory | RowFaultKind::Read) => {
             Err(NoMemory)
         }
@@ -58,7 +58,7 @@ fn text_of(
     if is_whole { Ok(Some(text)) } else { Ok(None) }
 }
 
-/// The records of the slice of a snapshot whose graph isn't there, by the links of a cycle at the level; none where it would break the
+/// The records of the slice of a snapshot whose graph isn't at hand, by the links of a cycle at the level; none where it would break the
 /// small limits.
 fn text_anew(
     alloc: Global,
@@ -75,21 +75,23 @@ fn text_anew(
     text_of(alloc, snapshot, &graph, level, links)
 }
 
-/// The records of the slice of a snapshot by the links of what was said of it: cut from the graph that was decided of, where it is
-/// there.
+/// The records of the slice of a snapshot by the links of what was said about it: cut from the graph by which that was decided, where it is
+/// at hand.
 pub(crate) fn slice_text(
     alloc: Global,
     snapshot: &LargeSnapshot,
     level: Level,
-    outcome: &Outcome,
+    outcome: &LargeOutcome,
     links: &[Link],
 ) -> Result<Option<Vec<u8>>, NoMemory>
     ensures { IsOutcome level snapshot.now outcome.now → outcome_links outcome.now ≡ Some links.now
         → IfOk result (λ made. IsSliceMade level snapshot.now links.now (option_map (λ text. text.items) made)) }
 {
     match outcome {
-        Outcome::Bare { graph, .. } => text_of(alloc, snapshot, graph, level, links),
-        Outcome::Large { graph, .. } => text_of(alloc, snapshot, graph, level, links),
-        Outcome::Tabled(_) | Outcome::Unresolved(_) => text_anew(alloc, snapshot, level, links),
+        LargeOutcome::Bare { graph, .. } => text_of(alloc, snapshot, graph, level, links),
+        LargeOutcome::Large { graph, .. } => text_of(alloc, snapshot, graph, level, links),
+        LargeOutcome::Tabled(_) | LargeOutcome::Unresolved(_) => text_anew(
+            alloc, snapshot, level, links,
+        ),
     }
 }

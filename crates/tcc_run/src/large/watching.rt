@@ -1,4 +1,4 @@
-//! Who is told what a run is doing.
+//! The watcher, which is called when a stage of a run begins and when it ends.
 
 use tcc_explain::{Gate, OpenGate};
 
@@ -13,15 +13,15 @@ pub enum Stage {
     Slicing,
 }
 
-/// Is told of each stage of a run when it begins and when it ends, and is the gate of its searches. Nothing is written while a
-/// stage lasts. No promise rests on what it does.
+/// Is called when each stage of a run begins and when it ends, and is the gate of its searches. Nothing is written during a stage. No
+/// promise depends on what it does.
 pub trait Watcher: Gate {
     fn begin(&self, stage: Stage);
 
     fn end(&self);
 }
 
-/// Nobody is told.
+/// A watcher that does nothing.
 impl Watcher for OpenGate {
     fn begin(&self, _stage: Stage) {}
 

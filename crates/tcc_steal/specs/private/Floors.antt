@@ -1,4 +1,4 @@
--- What a least cycle costs, as a number that tables of costs settle: the floor of the bound.
+-- The cost of a least cycle, as a number that tables of costs determine: the floor of the bound.
 use Rattle.std.specs.Prelude.{ℕ, zero, suc, ◌-◌, ◌==◌, ◌&&◌, ◌||◌, Bool, false, List, [], ◌∷◌, length, Option, None, Some, nat_lt, if◌then◌else◌}
 use Rattle.std.specs.List.{list_any}
 use Rattle.tcc_derive.specs.Prices.{Tables, cost_at}
@@ -13,12 +13,12 @@ abbrev pub after_step : Option ℕ → (ℕ → Bool) → ℕ → Bool
 after_step None test left = false
 after_step (Some d) test left = if nat_lt left d then false else test (left - d)
 
--- cheapest links, so many at most, lead from u to v and cost c together
+-- cheapest links, at most this many, lead from u to v and cost c together
 abbrev pub leads : Tables → ℕ → ℕ → ℕ → ℕ → Bool
 leads t zero u v c = (u == v) && (c == 0)
 leads t (suc k) u v c = ((u == v) && (c == 0)) || list_any (λ w. after_step (cost_at t u w) (λ left. leads t k w v left) c) (below (length t.prices))
 
--- some cycle of cheapest links costs c, of which each costs something
+-- some cycle of cheapest links costs c, and each of them costs something
 abbrev pub is_cycle_cost : Tables → ℕ → Bool
 is_cycle_cost t c = nat_lt 0 c && list_any (λ s. leads t c s s c) (below (length t.prices))
 
@@ -27,6 +27,6 @@ abbrev pub first_below : ℕ → (ℕ → Bool) → ℕ
 first_below zero test = zero
 first_below (suc n) test = if test zero then zero else suc (first_below n (λ k. test (suc k)))
 
--- what a least cycle costs, and `u64::MAX` where there is none
+-- the cost of a least cycle, and `u64::MAX` where there is none
 unfoldable pub least_cost : Tables → ℕ
 least_cost t = first_below 18446744073709551615 (is_cycle_cost t)

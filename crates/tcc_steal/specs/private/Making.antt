@@ -1,4 +1,4 @@
--- What an event that needs no prices makes of a machine.
+-- What an event that needs no prices does to a machine.
 use Rattle.std.specs.Prelude.{◌≡◌, Result, OnOk}
 use Rattle.tcc_graph.specs.Levels.{Judged}
 use Rattle.tcc_steal.specs.Steps.{Happens}
@@ -7,7 +7,7 @@ use Rattle.tcc_steal.specs.Outcomes.{Answers}
 use Rattle.tcc_steal.specs.declared.event.Event.{Event}
 use Rattle.tcc_steal.specs.declared.event.StepFault.{StepFault}
 
--- it has as many starts and is one of the same history, the event happens where it is done, and the answer says so
+-- it has as many starts and is one of the same history, the event happens where it is done, and the result says so
 abbrev pub Makes : {U : Type 0} → Event → Machine → Result U StepFault → Machine → Type 0
 Makes e old result new =
     (new.starts ≡ old.starts)

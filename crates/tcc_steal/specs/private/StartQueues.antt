@@ -1,4 +1,4 @@
--- What the deque holds, what each pass has taken from it, and what each step tells its pass.
+-- What the deque holds, what each pass has taken from it, and what each step reports to its pass.
 use Rattle.std.specs.Prelude.{ℕ, ◌<◌, ◌+◌, ◌==◌, ◌≡◌, ◌++◌, true, false, List, [], ◌∷◌, length, All, nat_lt, if◌then◌else◌}
 use mathlib.Core.Option.{some}
 use lib.ListN.{get_elem?}
@@ -9,7 +9,7 @@ abbrev pub AreRun : ℕ → List ℕ → Type 0
 AreRun first [] = Unit {0}
 AreRun first (x ∷ xs) = (x ≡ first) × AreRun (first + 1) xs
 
--- how often x stands in the list
+-- how often x is in the list
 abbrev pub times : ℕ → List ℕ → ℕ
 times x [] = 0
 times x (y ∷ ys) = (if y == x then 1 else 0) + times x ys
@@ -43,15 +43,15 @@ without_push view = record view { may_push = false }
 abbrev pub thief_of : PassView → PassView
 thief_of view = record view { may_push = false; starts = [] }
 
--- what a push tells
+-- what a push reports
 abbrev pub Pushes : PassView → List ℕ → PassView → Type 0
 Pushes before xs after = after ≡ record before { pushed = before.pushed + 1 }
 
--- what a pop or a steal tells: the pass has the start, which was pushed
+-- what a pop or a steal reports: the pass has the start, which was pushed
 abbrev pub Takes : PassView → List ℕ → PassView → Type 0
 Takes before xs after = (after ≡ record before { starts = before.starts ++ xs }) × All (λ x. x < before.pushed) xs
 
--- a pass of a deque to which so many starts were pushed
+-- a pass of a deque to which this many starts were pushed
 pub record IsTaker (count : ℕ) (view : PassView) : Type 0 where
   pub live : view.live ≡ true
   pub pushed : view.pushed ≡ count

@@ -119,7 +119,7 @@ fn altered_lines(rt: HostRuntime) -> Result<(), Fail> {
     Ok(())
 }
 
-// A line behind the first has at most 127 bytes and a line feed.
+// A line after the first has at most 127 bytes and a line feed.
 #[test]
 fn long_lines(rt: HostRuntime) -> Result<(), Fail> {
     let alloc = rt.alloc();
@@ -132,7 +132,7 @@ fn long_lines(rt: HostRuntime) -> Result<(), Fail> {
     Ok(())
 }
 
-// The reader is that of the version that the first line says; a line of no version is for the first of them to name.
+// The reader is that of the version in the first line. A line of no version is reported by the reader of parts.
 #[test]
 fn readers_of_versions(rt: HostRuntime) -> Result<(), Fail> {
     let alloc = rt.alloc();

@@ -43,7 +43,7 @@ fn told(alloc: Global, part: &Part) -> Result<String, AllocError> {
     Ok(text)
 }
 
-// The claim, then the links and the rows in the order of the text; behind the end there is the end.
+// The claim, then the links and the rows in the order of the text. After the end there is the end.
 #[test]
 fn worked_parts(rt: HostRuntime) -> Result<(), Fail> {
     let alloc = rt.alloc();
@@ -97,8 +97,8 @@ fn begun(text: &[u8], line: usize) -> &[u8] {
     text
 }
 
-/// Of the stale read, another line in place of one: the number of the line, counted from 1, which is that of the fault
-/// too, the fault's kind, how many parts come before it, and the line.
+/// The stale read with another line in place of one. Each row has the number of the line, counted from 1, which is also
+/// that of the fault; the fault's kind; how many parts come before it; and the line.
 const FAULTS: &str = "\
     1 Header 0|tcc\n\
     2 Word 0|ring 3 2 3\n\

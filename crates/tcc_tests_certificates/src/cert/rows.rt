@@ -53,7 +53,7 @@ fn the_end_is_flushed(rt: HostRuntime) -> Result<(), Fail> {
     Ok(())
 }
 
-/// Once a call has answered that a write failed, each later one does.
+/// Once a call has reported that a write failed, each later one does.
 fn note(rt: &impl Abort, has_failed: &mut bool, answer: Result<(), CertWriteFault>) {
     if *has_failed {
         assert_eq!(rt; answer, Err(CertWriteFault::Device));
@@ -63,7 +63,7 @@ fn note(rt: &impl Abort, has_failed: &mut bool, answer: Result<(), CertWriteFaul
 
 const ROWS: usize = 3;
 
-/// Gives rows as long as they come to an output whose writes work so many times, and shows the output, and whether a
+/// Gives rows, as long as rows may be, to an output whose first `works` writes succeed. Returns the output, and whether a
 /// write failed.
 fn large(rt: &impl Abort, alloc: Global, works: usize) -> Result<(Breaking, bool), AllocError> {
     let links = one_link(alloc)?;
@@ -96,7 +96,7 @@ fn large(rt: &impl Abort, alloc: Global, works: usize) -> Result<(Breaking, bool
     Ok((out, has_failed))
 }
 
-// A row of some 8,000 bytes goes out in one write or two, and behind a failure nothing more does.
+// A row of some 8,000 bytes is written in one write or two, and nothing more is written after a failure.
 #[test]
 fn failing_writes(rt: HostRuntime) -> Result<(), Fail> {
     let alloc = rt.alloc();

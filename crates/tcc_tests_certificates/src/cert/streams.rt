@@ -2,7 +2,7 @@
 use std::alloc::Global;
 use std::io::{self, ErrorKind, Read, Write};
 
-/// A writer that takes a few bytes at a time, and does otherwise once so many went out.
+/// A writer that takes a few bytes at a time, and shows its fault after `room` bytes.
 #[derive(Drop)]
 pub struct Faulty {
     pub taken: Vec<u8>,
@@ -12,7 +12,7 @@ pub struct Faulty {
 
 #[derive(Clone, Copy, Debug)]
 pub enum Fault {
-    /// Each write fails so.
+    /// Each write fails with this kind.
     Fails(ErrorKind),
     /// Each write takes no bytes.
     TakesNone,
@@ -49,7 +49,7 @@ impl Write for Faulty {
     }
 }
 
-/// An output whose writes work so many times.
+/// An output whose first `works` writes succeed.
 #[derive(Drop)]
 pub struct Breaking {
     pub taken: Vec<u8>,
@@ -118,7 +118,7 @@ impl Read for Failing<'_> {
     }
 }
 
-/// A reader of a text, so many bytes at a time, that gives no bytes once, and then more.
+/// A reader of a text, at most `most` bytes at a time, that gives no bytes once, and then more.
 #[derive(Drop)]
 pub struct Resuming<'a> {
     text: &'a [u8],
@@ -141,7 +141,7 @@ impl Read for Resuming<'_> {
     }
 }
 
-/// A reader that gives so many bytes of the text, then none once, and then the rest.
+/// A reader that gives `count` bytes of the text, then none once, and then the rest.
 pub fn gives_twice(text: &str, most: usize, count: usize) -> Resuming<'_> {
     let (text, more) = text.as_bytes().split_at(count.min(text.len()));
     Resuming {

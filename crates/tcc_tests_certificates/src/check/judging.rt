@@ -17,7 +17,7 @@ fn verdict(rt: &impl Abort, alloc: Global, records: &str, certificate: &Certific
 /// The first broken rule and where, none where the certificate is accepted.
 type Wanted = Option<(Rule, u32, u32)>;
 
-/// The certificate's text with what stands between its first line and its last.
+/// The certificate's text, with the lines between its first and its last.
 fn text_of(alloc: Global, header: &str, claim: &[&str]) -> Result<Vec<u8>, AllocError> {
     let mut text = Vec::new(alloc);
     text.extend_from_slice(b"tcc-certificate ")?;
@@ -62,7 +62,7 @@ fn assert_verdict(
     );
 }
 
-/// What stands behind the word in the first line, the links, the table of lengths, the table of costs, and the verdict.
+/// What comes after the word in the first line, the links, the table of lengths, the table of costs, and the verdict.
 type Row<'a> = (&'a str, &'a str, &'a str, &'a str, Wanted);
 
 fn assert_cycles(rt: &impl Abort, alloc: Global, records: &str, rows: &[Row]) {
@@ -111,7 +111,7 @@ fn a_stale_read(rt: HostRuntime) {
     assert_cycles(&rt, rt.alloc(), STALE, rows);
 }
 
-/// The first wrong link is named, where the first begins too; numbers out of range come before it, wherever they stand.
+/// The first wrong link is named, where the first begins too. Numbers out of range come before it, wherever they are.
 #[test]
 fn wrong_links(rt: HostRuntime) {
     use Rule::{Links, Sizes};
@@ -144,7 +144,7 @@ fn wrong_links(rt: HostRuntime) {
     assert_cycles(&rt, rt.alloc(), STALE, rows);
 }
 
-/// From a/3 the tables have least for a/1, which is two places before a/3 itself.
+/// From a/3 the tables have `least` for a/1, which is two places before a/3 itself.
 #[test]
 fn a_session_of_three(rt: HostRuntime) {
     use Rule::{FarSteps, NearSteps};
@@ -209,7 +209,8 @@ fn other_cycles(rt: HostRuntime) {
     }
 }
 
-/// No text says so: no links at all, rows of costs in the form of the other version, an order at `Atomic` with clocks.
+/// Claims that no text has: no links at all, rows of costs in the form of the other version, an order at `Atomic` with
+/// clocks.
 #[test]
 fn no_such_text(rt: HostRuntime) -> Result<(), Fail> {
     let alloc = rt.alloc();
@@ -287,7 +288,7 @@ fn orders(rt: HostRuntime) {
     }
 }
 
-/// The list alone, with what single pairs contradict.
+/// Only the list, with what single pairs contradict.
 #[test]
 fn atomic_orders(rt: HostRuntime) {
     use Rule::{Axiom, Pairs, Sizes};

@@ -7,7 +7,7 @@ use std::test::Fail;
 use tcc_cert::{CertFault, CertFaultKind};
 use tcc_check::{Claim, Judgement, Rule, StreamFault, Verdict, check_stream, judge_stream};
 
-/// The certificate of a/2 that reads what a/1 wrote over.
+/// The certificate of a/2, which reads what a/1 overwrote.
 const STALE_READ: &str = "tcc-certificate 1\ncycle 3 2 3\nS 0 1\nD 1 0 x 2 1\nS 1 2\n\
     near\n3 1 1\n3 3 1\n3 3 3\nfar\n3 1 1\n2 3 1\n3 3 3\nend\n";
 
@@ -58,7 +58,7 @@ fn claims(rt: HostRuntime) {
     );
 }
 
-/// The first broken rule is named, whatever is broken behind it; a count of others breaks the first.
+/// The first broken rule is named, whatever is broken after it. Another count of transactions breaks the first rule.
 #[test]
 fn first_rules(rt: HostRuntime) {
     let alloc = rt.alloc();

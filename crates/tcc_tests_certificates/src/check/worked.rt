@@ -28,7 +28,7 @@ pub const FORKED: &str = "a,begin\na,w,x,1\na,commit\nb,begin\nb,w,y,1\nb,commit
 pub const CROSSED: &str =
     "a,begin\na,w,x,1\na,r,y,1\na,commit\nb,begin\nb,w,y,1\nb,r,x,1\nb,commit\n";
 
-/// b/1 knows of a/2, but reads the value from before a/1: no single pair leads from a/1 to b/1.
+/// b/1 had observed a/2, but reads the value from before a/1: no single pair leads from a/1 to b/1.
 pub const DISTANT: &str = "a,begin\na,w,x,1\na,commit\na,begin\na,w,y,1\na,commit\n\
     b,begin\nb,r,y,1\nb,r,x,0\nb,commit\n";
 

@@ -1,4 +1,4 @@
-//! What no clause says: which of two faults is answered, and what stands under the lock between two calls.
+//! What no clause says: which of two faults is returned, and what is under the lock between two calls.
 use crate::tests::builders::name;
 use std::alloc::Global;
 use std::process::Abort;
@@ -11,10 +11,10 @@ use tcc_txn::{MAX_SESSIONS, MAX_TRANSACTIONS, Name, Op, Snapshot, Txn};
 /// The sessions of the recorders that record side by side.
 const RECORDERS: &[u8] = b"abcdefgh";
 
-/// How many transactions each of them records, with a seal behind each.
+/// How many transactions each of them records, with a seal after each.
 const MOST: u32 = 50;
 
-/// How often they all do so.
+/// How many times they all do so.
 const TIMES: u32 = 3;
 
 /// The session whose name is a letter.
@@ -46,7 +46,7 @@ fn record(
     Some(book.record(rt, alloc, pass, write(alloc, value)?))
 }
 
-/// A transaction that tells its session and its place: of one operation to three, each third one aborted.
+/// A transaction that encodes its session and its place: of one to three operations, each third one aborted.
 fn telling(alloc: Global, letter: u8, place: u32) -> Option<Txn> {
     let key = Name::read(&[letter]).ok()?;
     let mut ops = Vec::new(alloc);
@@ -93,7 +93,7 @@ fn begins(some: &[Txn], all: &[Txn]) -> bool {
     true
 }
 
-/// What the session finished, where it is there.
+/// What the session finished, if it is there.
 fn finished_by<'a>(snapshot: &'a Snapshot, name: &Name) -> Option<&'a [Txn]> {
     for i in 0..snapshot.sessions() {
         if let Some((session, txns)) = snapshot.session(i) {
@@ -120,7 +120,7 @@ struct Recorder {
     seals: Vec<Snapshot>,
 }
 
-/// A recorder's whole life, with its seals; none where something was not as it should be.
+/// All that a recorder does, with its seals; none where something was not as it should be.
 fn life_of(rt: &impl Wait, alloc: Global, book: &Book, pass: Pass, letter: u8) -> Option<Recorder> {
     let mut pass = pass;
     let mut seals = Vec::new(alloc);
@@ -136,7 +136,7 @@ fn life_of(rt: &impl Wait, alloc: Global, book: &Book, pass: Pass, letter: u8) -
     Some(Recorder { pass, seals })
 }
 
-/// Whether a seal has of each recorder's session a beginning of what that one had recorded in the end, and no other session.
+/// Whether for each recorder's session a seal has a beginning of what that one had recorded in the end, and no other session.
 fn is_beginning(seal: &Snapshot, recorders: &[Recorder]) -> bool {
     for recorder in recorders {
         match finished_by(seal, recorder.pass.session()) {
@@ -147,7 +147,7 @@ fn is_beginning(seal: &Snapshot, recorders: &[Recorder]) -> bool {
     seal.sessions() as usize == recorders.len()
 }
 
-/// Whether that holds of all seals of a recorder.
+/// Whether that holds for all seals of a recorder.
 fn are_beginnings(seals: &[Snapshot], recorders: &[Recorder]) -> bool {
     for seal in seals {
         if !is_beginning(seal, recorders) {
@@ -215,8 +215,8 @@ fn closes_whole(rt: &impl Wait, alloc: Global, book: Book, recorders: Vec<Record
     }
 }
 
-/// Eight recorders in threads of their own, again and again: each seal has exactly what its caller recorded, and of each other
-/// session a beginning of what that one had recorded in the end; then all lists are whole, and so the book closes.
+/// Eight recorders in threads of their own, again and again. Each seal has exactly what its caller recorded, and for each other session a
+/// beginning of what that one had recorded in the end. Then all lists are whole, and so the book closes.
 #[test]
 fn eight_recorders(rt: HostRuntime) {
     for _ in 0..TIMES {
@@ -256,7 +256,7 @@ fn opened(rt: &(impl Abort + Wait), alloc: Global, book: &Book, letters: &[u8]) 
     passes
 }
 
-/// Records the writes of so many values from 1 on, which have to be taken.
+/// Records the writes of the values from 1 to `values`, which have to be accepted.
 fn assert_records(
     rt: &(impl Abort + Wait),
     alloc: Global,
@@ -269,7 +269,7 @@ fn assert_records(
     }
 }
 
-/// A session without its pass is missed, the least one first, and nothing is lost by it: book and pass record on.
+/// A session without its pass is reported as missing, the least one first, and nothing is lost by it: book and pass record on.
 #[test]
 fn missing_passes(rt: HostRuntime) {
     let alloc = rt.alloc();
@@ -299,7 +299,7 @@ fn missing_passes(rt: HostRuntime) {
     assert!(rt; closed.is_ok_and(|closed| closed.is_same(&whole)));
 }
 
-/// A pass of another book is torn, the least one first.
+/// A pass of another book is reported as torn, the least one first.
 #[test]
 fn torn_passes(rt: HostRuntime) {
     let alloc = rt.alloc();
@@ -317,7 +317,7 @@ fn torn_passes(rt: HostRuntime) {
     assert_eq!(rt; book.whole(&rt, alloc, &passes).err(), torn);
 }
 
-/// A session is opened once, also where it has recorded nothing yet, and up to so many are.
+/// A session is opened once, even if it has recorded nothing yet, and up to a fixed number of sessions are.
 #[test]
 fn openings(rt: HostRuntime) {
     let alloc = rt.alloc();
@@ -347,8 +347,7 @@ fn is_full(rt: &impl Abort, snapshot: &Snapshot) -> bool {
     true
 }
 
-/// A full book hands the transaction back, and is sealed, made whole and closed with all that it holds: so no call gives up
-/// at fewer.
+/// A full book returns the transaction, and is sealed, made whole and closed with all that it holds: so no call gives up at fewer.
 #[test]
 fn full_book(rt: HostRuntime) {
     let alloc = rt.alloc();

@@ -1,4 +1,4 @@
-//! What the tests start from, made of texts.
+//! What the tests start from, made from texts.
 use std::alloc::Global;
 use std::fmt::Display;
 use std::process::Abort;
@@ -7,7 +7,7 @@ use tcc_reads::{Resolved, resolve};
 use tcc_rows::snapshot_of;
 use tcc_txn::{Name, Snapshot};
 
-/// A name that the test writes out.
+/// A name that the test spells out.
 pub fn name(rt: &impl Abort, text: &str) -> Name {
     match Name::read(text.as_bytes()) {
         Ok(name) => name,

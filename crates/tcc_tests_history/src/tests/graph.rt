@@ -62,8 +62,8 @@ fn label_with_an_aborted_transaction(rt: HostRuntime) -> Result<(), Fail> {
     Ok(())
 }
 
-/// a/1 writes x, a/2 and a/3 do nothing, and b/1 reads x from a/1: of each two numbers below 5, whether they are a pair
-/// of session order, and whether a causal pair.
+/// a/1 writes x, a/2 and a/3 do nothing, and b/1 reads x from a/1. For each two numbers below 5: whether they are a pair of session order,
+/// and whether they are a causal pair.
 #[test]
 fn pairs(rt: HostRuntime) -> Result<(), Fail> {
     let alloc = rt.alloc();
@@ -100,9 +100,8 @@ fn assert_writers(rt: &impl Abort, graph: &Graph, key: &str, wanted: &[u32]) {
     assert!(rt; graph.writers(&name(rt, key)) == wanted, "of {key}");
 }
 
-/// Of two histories, the keys, the readers of a key from a writer, and the writers of a key. In the first, a/1 and b/1
-/// write x, and c/1 reads both values; in the second, a reader that writes the key too stands among its readers, and
-/// keys stand in byte order.
+/// For two histories: the keys, the readers of a key from a writer, and the writers of a key. In the first, a/1 and b/1 write x, and c/1
+/// reads both values. In the second, a reader that writes the key too is among its readers, and keys are in byte order.
 #[test]
 fn keys_writers_and_readers(rt: HostRuntime) -> Result<(), Fail> {
     let alloc = rt.alloc();

@@ -1,4 +1,4 @@
-//! A history past the small limits, with its numbers and pairs worked out by hand.
+//! A history above the small limits, with its numbers and pairs worked out by hand.
 use crate::tests::builders::{assert_names, graph_of, name};
 use std::alloc::Global;
 use std::process::Abort;
@@ -45,7 +45,7 @@ fn writers_of_x(
     }
 }
 
-/// The fault of a second write is told at places past the small limits too.
+/// The fault of a second write is reported at places above the small limits too.
 #[test]
 fn a_second_write_far_behind_the_first(rt: HostRuntime) -> Result<(), Fail> {
     let alloc = rt.alloc();

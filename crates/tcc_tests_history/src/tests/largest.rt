@@ -1,5 +1,5 @@
-//! The largest small histories, and one of a million transactions: the resolver and the graphs take them, and tell all faults of them,
-//! where memory is there. What a test of the most transactions with `--large` would take is past a test's time; the rows have it.
+//! The largest small histories, and one of a million transactions: the resolver and the graphs accept them, and report all their faults,
+//! where there is memory. A test of the most transactions with `--large` would take too long here; the tests of rows have it.
 use crate::tests::builders::name;
 use std::alloc::Global;
 use std::process::Abort;
@@ -19,7 +19,7 @@ fn keys(rt: &impl Abort, alloc: Global, count: usize) -> Result<Vec<Name>, Fail>
     Ok(keys)
 }
 
-/// So many committed transactions that each read the value at each of the keys.
+/// `count` committed transactions that each read the value at each of the keys.
 fn readers(
     rt: &impl Abort,
     alloc: Global,
@@ -41,7 +41,7 @@ fn readers(
     Ok(txns)
 }
 
-/// Sessions s0, s1 .., each with so many readers, but the last with one fewer.
+/// `count` sessions s0, s1 .., each with `each` readers, but the last with one fewer.
 fn sessions(
     rt: &impl Abort,
     alloc: Global,

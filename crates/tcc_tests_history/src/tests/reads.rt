@@ -41,7 +41,7 @@ fn faults_of_records(rt: HostRuntime) -> Result<(), Fail> {
             "a,begin\na,w,x,1\na,w,x,2\na,commit\nb,begin\nb,r,x,1\nb,commit\n",
             &[("b", 1, 1, "x", 1, Intermediate)],
         ),
-        // The last write of x is of the value that was written over: what comes later counts, and not the value.
+        // The last write of x is of the value that was overwritten: what comes later counts, and not the value.
         (
             "b,begin\nb,r,x,1\nb,commit\na,begin\na,w,x,1\na,w,x,2\na,w,x,1\na,commit\n",
             &[
@@ -91,7 +91,7 @@ fn exact_faults_or_want_of_memory(rt: HostRuntime) {
     }
 }
 
-/// No session at all: there is `init` alone.
+/// No session at all: there is only `init`.
 #[test]
 fn nothing_happened(rt: HostRuntime) -> Result<(), Fail> {
     let alloc = rt.alloc();
@@ -103,7 +103,7 @@ fn nothing_happened(rt: HostRuntime) -> Result<(), Fail> {
     Ok(())
 }
 
-/// The names stand in this text, in this order, and each with a space before it.
+/// The names are in this text, in this order, and each with a space before it.
 fn assert_written(rt: &impl Abort, alloc: Global, names: &[Name], wanted: &str) {
     let mut found = String::new(alloc);
     for name in names {
@@ -127,8 +127,8 @@ fn assert_reads(rt: &impl Abort, alloc: Global, reads: &[(Name, u32)], wanted: &
     assert_eq!(rt; found.as_str(), wanted);
 }
 
-/// Aborted transactions have places and no numbers; keys and reads come in order, each pair once; a read after an own
-/// write has no source; 0 is read from `init`, whoever wrote the key.
+/// Aborted transactions have places and no numbers; keys and reads come in order, each pair once. A read after an own write has no source;
+/// 0 is read from `init`, whoever wrote the key.
 #[test]
 fn numbers_and_sources(rt: HostRuntime) -> Result<(), Fail> {
     let alloc = rt.alloc();

@@ -8,7 +8,7 @@ use std::collections::BTreeMap;
 use std::process::Abort;
 use std::test::Fail;
 use tcc_rows::{
-    LargeRecording, Moment, Recording, RowFault, RowFaultKind, large_snapshot_of, snapshot_of,
+    Checkpoint, LargeRecording, Recording, RowFault, RowFaultKind, large_snapshot_of, snapshot_of,
 };
 use tcc_txn::{
     Alike, GrowFault, KeyHints, LARGE_COUNT, LargeSnapshot, Limits, Name, NameFault, Nearby,
@@ -58,7 +58,7 @@ fn refuses_names(rt: HostRuntime) {
     }
 }
 
-/// Names out of order, one of them twice; the order of their bytes, each once.
+/// Names out of order, one of them twice; and the same names in the order of their bytes, each once.
 const NAMES: [&str; 6] = ["ab", "a", "A", "a.1", "a-b", "a"];
 
 const IN_ORDER: [&str; 5] = ["A", "a", "a-b", "a.1", "ab"];
@@ -124,7 +124,7 @@ fn names_have_numbers(rt: HostRuntime) -> Result<(), Fail> {
     Ok(())
 }
 
-// What no clause says: the cache has the number that was put last, and room for as many names as it was asked for.
+// What no clause says: the cache has the number that was put last, and room for as many names as was asked for.
 #[test]
 fn caches_numbers(rt: HostRuntime) -> Result<(), Fail> {
     let alloc = rt.alloc();
@@ -168,7 +168,7 @@ fn makes_transactions(rt: HostRuntime) -> Result<(), Fail> {
     Ok(())
 }
 
-// These operations are refused so, and come back.
+// These operations are refused in this way, and are returned.
 fn assert_refused(rt: &impl Abort, ops: Vec<Op>, wanted: TxnFault) -> Vec<Op> {
     let count = ops.len();
     match Txn::new(ops, true) {
@@ -199,7 +199,7 @@ fn refuses_transactions(rt: HostRuntime) -> Result<(), Fail> {
     Ok(())
 }
 
-// So many transactions without operations, the first aborted.
+// `count` transactions without operations, the first aborted.
 fn idle(rt: &impl Abort, alloc: Global, count: usize) -> Result<Vec<Txn>, Fail> {
     let mut txns = Vec::new(alloc);
     for number in 0..count {
@@ -211,7 +211,7 @@ fn idle(rt: &impl Abort, alloc: Global, count: usize) -> Result<Vec<Txn>, Fail> 
     Ok(txns)
 }
 
-// The session at this index has this name, and so many transactions.
+// The session at this index has this name, and this many transactions.
 fn assert_session(rt: &impl Abort, snapshot: &Snapshot, index: u32, wanted: (&str, usize)) {
     match snapshot.session(index) {
         Some((session, txns)) => {
@@ -222,7 +222,7 @@ fn assert_session(rt: &impl Abort, snapshot: &Snapshot, index: u32, wanted: (&st
     }
 }
 
-// Each session has as many transactions as stand before it in the list.
+// Each session has as many transactions as come before it in the list.
 #[test]
 fn makes_snapshots_in_byte_order(rt: HostRuntime) -> Result<(), Fail> {
     let alloc = rt.alloc();
@@ -244,7 +244,7 @@ fn makes_snapshots_in_byte_order(rt: HostRuntime) -> Result<(), Fail> {
     Ok(())
 }
 
-// Sessions s0, s1 .., the first with so many transactions.
+// `count` sessions s0, s1 .., the first with `transactions` transactions.
 fn sessions(
     rt: &impl Abort,
     alloc: Global,
@@ -309,7 +309,7 @@ fn tells_limits(rt: HostRuntime) {
     assert_eq!(rt; LARGE_COUNT, 16_777_216);
 }
 
-// Each has some sessions of which the first has some transactions, and whether it is small.
+// Each case has some sessions of which the first has some transactions, and whether that is small.
 #[test]
 fn makes_large_snapshots(rt: HostRuntime) -> Result<(), Fail> {
     let alloc = rt.alloc();
@@ -345,8 +345,7 @@ fn makes_large_snapshots(rt: HostRuntime) -> Result<(), Fail> {
     Ok(())
 }
 
-// Two transactions, of which each is told of its keys: nothing, all, too little, too much, wrong numbers, or other names.
-// The snapshot is the same.
+// Two transactions, each with hints about its keys: none, all, too few, too many, wrong numbers, or other names. The snapshot is the same.
 #[test]
 fn adds_with_what_is_told(rt: HostRuntime) -> Result<(), Fail> {
     let alloc = rt.alloc();
@@ -384,7 +383,7 @@ fn added(rt: &impl Abort, alloc: Global, told: KeyHints<'_>) -> Result<LargeSnap
     Ok(snapshot)
 }
 
-// Whatever allocation is refused, the snapshot is as it was, or has one transaction more.
+// Whatever allocation is refused, the snapshot is unchanged, or has one transaction more.
 #[test]
 fn added_where_memory_is_refused(rt: HostRuntime) -> Result<(), Fail> {
     let alloc = rt.alloc();
@@ -476,13 +475,17 @@ fn records_up_to_each_seal(rt: HostRuntime) -> Result<(), Fail> {
     let mut recording = Recording::new(alloc, text.as_bytes())?;
     assert_eq!(rt; recording.snapshot().sessions(), 0);
     for (want, a, b) in [
-        (Moment::Seal, None, 1usize),
-        (Moment::Seal, Some(1), 2),
-        (Moment::Seal, Some(1), 2),
-        (Moment::End, Some(1), 3),
-        (Moment::End, Some(1), 3),
+        (Checkpoint::Seal, None, 1usize),
+        (Checkpoint::Seal, Some(1), 2),
+        (Checkpoint::Seal, Some(1), 2),
+        (Checkpoint::End, Some(1), 3),
+        (Checkpoint::End, Some(1), 3),
     ] {
-        assert!(rt; recording.advance(alloc).is_ok_and(|moment| moment == want));
+        assert!(rt;
+            recording
+                .advance(alloc)
+                .is_ok_and(|checkpoint| checkpoint == want)
+        );
         assert!(rt; finished(recording.snapshot(), "a") == a);
         assert!(rt; finished(recording.snapshot(), "b") == Some(b));
     }
@@ -540,7 +543,7 @@ fn large_records_up_to_each_seal(rt: HostRuntime) -> Result<(), Fail> {
     assert!(rt;
         recording
             .advance(alloc)
-            .is_ok_and(|moment| moment == Moment::Seal)
+            .is_ok_and(|checkpoint| checkpoint == Checkpoint::Seal)
     );
     assert_eq!(rt; recording.snapshot().sessions(), 1);
     for _ in 0..2 {
@@ -615,7 +618,7 @@ fn a_fault_stays(rt: HostRuntime) -> Result<(), Fail> {
     let alloc = rt.alloc();
     let text = "a,begin\na,commit\nseal\na,commit\nb,begin\nb,commit\n";
     let mut recording = Recording::new(alloc, text.as_bytes())?;
-    let Ok(Moment::Seal) = recording.advance(alloc) else {
+    let Ok(Checkpoint::Seal) = recording.advance(alloc) else {
         panic!(rt; "no seal");
     };
     for _ in 0..2 {

@@ -42,8 +42,8 @@ fn seeds(rt: HostRuntime) {
     }
 }
 
-/// A search that was taken to its end is renewed for each start in turn, and settles as one that begins there: from
-/// `init` the start returns at 3, from a/1 upward nothing comes back, and from a/2 nothing leads on.
+/// A search that was taken to its end is renewed for each start in turn, and settles as one that begins there. From `init` the start
+/// returns at 3, from a/1 upward nothing comes back, and from a/2 nothing leads on.
 #[test]
 fn renewed(rt: HostRuntime) {
     let alloc = rt.alloc();

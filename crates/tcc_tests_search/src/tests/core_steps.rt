@@ -6,8 +6,8 @@ use std::thread::Threads;
 use tcc_core::{Search, Settled};
 use tcc_graph::Level;
 
-/// Steps of a search: each has a cap, what it has to answer, and the row from the start upward that it has to leave,
-/// where the definitions settle that.
+/// Steps of a search. Each has a cap, the answer that is expected, and the row from the start upward that it has to leave, where the
+/// definitions settle that.
 type Steps<'a> = &'a [(u64, Settled, Option<&'a [Option<u32>]>)];
 
 /// Takes these steps of the search from a start.
@@ -39,8 +39,7 @@ fn assert_steps(
     }
 }
 
-/// From `init` two transactions join in some order, at 1 each, and then the start returns at 3. What costs as much as
-/// the cap is within it.
+/// From `init` two transactions join in some order, at 1 each, and then the start returns at 3. What costs as much as the cap is within it.
 #[test]
 fn steps_from_init(rt: HostRuntime) {
     let alloc = rt.alloc();
@@ -73,8 +72,8 @@ fn steps_from_init(rt: HostRuntime) {
     assert_steps(&rt, alloc, ONE_READ, Level::Causal, 0, &two_ways);
 }
 
-/// From a/1 upward nothing comes back over `init`, and no link leads on from a/2. Of two writers that have to stand
-/// before each other, the lower comes back, and the higher does not.
+/// From a/1 upward nothing comes back over `init`, and no link leads on from a/2. Of two writers that have to come before each other, the
+/// lower comes back, and the higher does not.
 #[test]
 fn steps_upward(rt: HostRuntime) {
     let alloc = rt.alloc();

@@ -35,7 +35,7 @@ const TWO_WALKS: &str =
     c,begin\nc,r,q,1\nc,w,t,1\nc,commit\nd,begin\nd,r,t,1\nd,w,u,1\nd,commit\n\
     e,begin\ne,r,s,1\ne,w,v,1\ne,commit\nf,begin\nf,r,u,1\nf,r,v,1\nf,r,x,0\nf,commit\n";
 
-/// A read that a walk of three steps contradicts, and one that a step does contradicts.
+/// One read that a walk of three steps contradicts, and one that a single step contradicts.
 const FAR_AND_NEAR: &str =
     "a,begin\na,w,x,1\na,w,q,1\na,commit\nc,begin\nc,r,q,1\nc,w,t,1\nc,commit\n\
     d,begin\nd,r,t,1\nd,w,u,1\nd,commit\nf,begin\nf,r,u,1\nf,r,x,0\nf,commit\n\
@@ -48,7 +48,7 @@ const TWO_STEPS: &str =
     c,begin\nc,r,q,1\nc,r,p,1\nc,w,v,1\nc,commit\nd,begin\nd,w,v,2\nd,w,r,1\nd,w,m,1\nd,commit\n\
     e,begin\ne,r,r,1\ne,r,m,1\ne,r,v,0\ne,commit\n";
 
-/// What a list of wanted numbers has for a pair.
+/// The value for a pair in a list of wanted numbers.
 fn wanted_at(wanted: &[(u32, u32, u32)], from: u32, to: u32) -> Option<u32> {
     for (a, b, number) in wanted {
         if *a == from && *b == to {
@@ -217,7 +217,7 @@ fn first_reasons(rt: HostRuntime) {
     }
 }
 
-/// Links are kept by cost up to this limit, and whether these are all.
+/// Links are kept by cost up to this limit; `whole` says whether these are all.
 fn assert_limit(
     rt: &(impl Abort + Threads + Sync),
     alloc: Global,
@@ -259,7 +259,7 @@ fn first_atomic_reasons(rt: HostRuntime) {
     }
 }
 
-/// The first of some names, whichever comes first in the list; none of none.
+/// The first of some names, wherever it is in the list; none of none.
 #[test]
 fn first_of_names(rt: HostRuntime) {
     let names = [Name::read(b"y"), Name::read(b"x"), Name::read(b"z")];

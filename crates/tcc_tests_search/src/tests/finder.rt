@@ -1,15 +1,15 @@
-//! How many steps the cycle has that is decided of histories in which the finder has to look in more than one way. No contract says
-//! how few it finds. Its cycle is judged, and then the first of the least ones is looked for, up to so many steps. So a finder that
-//! looks less far makes that search longer, which these counts show. They were worked out by hand, and no cycle has fewer. A finder
-//! that leaves out one of its ways comes to more.
+//! How many steps the decided cycle has, in histories in which the finder has to look in more than one way. No contract says how few it
+//! finds. Its cycle is judged, and then the first of the least ones is looked for, up to as many steps. So a finder that looks less far
+//! makes that search longer, which these counts show. They were worked out by hand, and no cycle has fewer. A finder that leaves out one of
+//! its ways finds cycles of more steps.
 use crate::tests::histories::graph_of;
 use std::alloc::Global;
 use std::process::Abort;
 use tcc_graph::{Level, steps_of};
 use tcc_large::decide;
 
-/// A circle of five reads, at the lower numbers, and one of four. Beside the read that is tried the second has three more,
-/// as many as stay below five steps.
+/// A cycle of five reads, at the lower numbers, and one of four. Besides the read that is tried the second has three more, as many as stay
+/// below five steps.
 const ROUNDS: &str = "a,begin\na,r,t,1\na,w,p,1\na,commit\nb,begin\nb,r,p,1\nb,w,q,1\nb,commit\n\
     c,begin\nc,r,q,1\nc,w,r,1\nc,commit\nd,begin\nd,r,r,1\nd,w,s,1\nd,commit\n\
     e,begin\ne,r,s,1\ne,w,t,1\ne,commit\nm,begin\nm,r,x,1\nm,w,u,1\nm,commit\n\
@@ -41,8 +41,8 @@ const LATER_WRITERS: &str =
     f,begin\nf,r,p,1\nf,w,q,1\nf,commit\ng,begin\ng,r,q,1\ng,commit\ng,begin\ng,r,x,1\ng,commit\n\
     h,begin\nh,r,n,1\nh,r,x,1\nh,commit\n";
 
-/// y/1 reads from r/1 what p/1 and p/2 overwrote. Two steps lead to it from p/1, and four from p/2, the last of its
-/// session. From r/1 two reads lead to p/1. Over p/2 the circle has eight steps, and past it five.
+/// y/1 reads from r/1 what p/1 and p/2 overwrote. Two steps lead to it from p/1, and four from p/2, the last of its session. From r/1 two
+/// reads lead to p/1. Over p/2 the cycle has eight steps, and without it five.
 const SHORTCUT: &str =
     "p,begin\np,r,m,1\np,w,x,1\np,w,b,1\np,commit\np,begin\np,w,x,2\np,w,c,1\np,commit\n\
     r,begin\nr,w,x,3\nr,w,k,1\nr,commit\ns,begin\ns,r,k,1\ns,w,m,1\ns,commit\n\
@@ -59,16 +59,16 @@ const CLOSING_BY_A_SOURCE: &str =
     n,begin\nn,r,n,1\nn,w,o,1\nn,commit\no,begin\no,r,o,1\no,w,p,1\no,commit\n\
     z,begin\nz,r,k,1\nz,w,y,2\nz,w,z,1\nz,commit\n";
 
-/// c/1 and b/4 read an old x from a/1. Three steps lead to c/1 from b/5, the last to write x. Before b/4 that is b/3. As
-/// b/2 reads from a/1, there are six steps over b/5, and four over b/3.
+/// c/1 and b/4 read an old x from a/1. Three steps lead to c/1 from b/5, the last to write x. Before b/4 that is b/3. As b/2 reads from
+/// a/1, there are six steps over b/5, and four over b/3.
 const CLOSING_BY_ITS_OWN: &str =
     "a,begin\na,w,x,1\na,w,k,1\na,commit\nb,begin\nb,w,x,2\nb,commit\nb,begin\nb,r,k,1\nb,commit\n\
     b,begin\nb,w,x,3\nb,commit\nb,begin\nb,r,x,1\nb,commit\nb,begin\nb,w,x,4\nb,w,l,1\nb,commit\n\
     c,begin\nc,r,n,1\nc,r,x,1\nc,commit\nd,begin\nd,r,l,1\nd,w,m,1\nd,commit\n\
     e,begin\ne,r,m,1\ne,w,n,1\ne,commit\n";
 
-/// a/1 and b/1 have to come before each other, by what c/1 and d/1 read: four steps. The links that are kept are longer:
-/// from a/2 to b/1 and from b/2 to a/1, of four steps each. Over z/1 the circle has seven steps.
+/// a/1 and b/1 have to come before each other, because of what c/1 and d/1 read: four steps. The links that are kept are longer: from a/2
+/// to b/1 and from b/2 to a/1, of four steps each. Over z/1 the cycle has seven steps.
 const TWO_CLOSINGS: &str =
     "a,begin\na,w,x,1\na,w,y,1\na,w,i,1\na,w,k,1\na,commit\na,begin\na,w,y,2\na,w,l,1\na,commit\n\
     b,begin\nb,w,x,2\nb,w,y,3\nb,w,j,1\nb,commit\nb,begin\nb,w,x,3\nb,w,m,1\nb,w,u,1\nb,commit\n\
@@ -88,8 +88,8 @@ const KEYS_AND_READERS: &str =
     s,begin\ns,r,r,1\ns,r,u,2\ns,r,v,2\ns,commit\nt,begin\nt,r,p,1\nt,r,v,2\nt,commit\n\
     v,begin\nv,r,q,1\nv,w,s,1\nv,commit\nw,begin\nw,r,s,1\nw,r,y,1\nw,commit\n";
 
-/// A circle of three links of two steps each, at the lower numbers, and one of five reads. `Atomic` keeps links also where
-/// pairs have a circle, and `Causal` none.
+/// A cycle of three links of two steps each, at the lower numbers, and one of five reads. `Atomic` keeps links also where pairs form a
+/// cycle, and `Causal` none.
 const PAIRS_BESIDE_LINKS: &str =
     "a,begin\na,w,x,1\na,w,z,2\na,commit\na,begin\na,r,x,2\na,commit\nb,begin\nb,w,x,2\nb,w,y,1\nb,commit\n\
     b,begin\nb,r,y,2\nb,commit\nc,begin\nc,w,y,2\nc,w,z,1\nc,commit\nc,begin\nc,r,z,2\nc,commit\n\
@@ -97,8 +97,8 @@ const PAIRS_BESIDE_LINKS: &str =
     o,begin\no,r,q,1\no,w,s,1\no,commit\np,begin\np,r,s,1\np,w,t,1\np,commit\n\
     q,begin\nq,r,t,1\nq,w,u,1\nq,commit\n";
 
-/// The same three links; and a circle of two links of two steps each, and a read. Past one of its transactions a link of
-/// three steps leads, which `Atomic` doesn't allow.
+/// The same three links; and a cycle of two links of two steps each, and a read. Around one of its transactions leads a link of three
+/// steps, which `Atomic` doesn't allow.
 const WALK_OF_TWO: &str =
     "a,begin\na,w,x,1\na,w,z,2\na,commit\na,begin\na,r,x,2\na,commit\nb,begin\nb,w,x,2\nb,w,y,1\nb,commit\n\
     b,begin\nb,r,y,2\nb,commit\nc,begin\nc,w,y,2\nc,w,z,1\nc,commit\nc,begin\nc,r,z,2\nc,commit\n\
@@ -117,7 +117,7 @@ fn steps_decided(rt: &impl Abort, alloc: Global, records: &str, level: Level) ->
     }
 }
 
-/// At each level the cycle has so many steps. No other has fewer.
+/// At each level the cycle has this many steps. No other has fewer.
 #[test]
 fn steps_found(rt: HostRuntime) {
     let alloc = rt.alloc();

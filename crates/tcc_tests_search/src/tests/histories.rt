@@ -1,4 +1,4 @@
-//! What the tests start from: worked histories as the texts of their records, and what is made of them.
+//! What the tests start from: worked histories as the texts of their records, and what is made from them.
 ghost use Rattle.tcc_near.specs.WalkLengths.{IsNearOf};
 ghost use Rattle.tcc_derive.specs.Prices.{IsPricesOf};
 ghost use Rattle.tcc_graph.specs.Levels.{judged};
@@ -12,20 +12,20 @@ use tcc_near::{Near, near};
 use tcc_reads::resolve;
 use tcc_rows::snapshot_of;
 
-/// a/1 writes x, and a/2 reads the initial value of x: a/1 has to stand before `init`, which costs 2, and every other
-/// link costs 1. The least cycle, over `init`, costs 3.
+/// a/1 writes x, and a/2 reads the initial value of x. So a/1 has to come before `init`, which costs 2, and every other link costs 1. The
+/// least cycle, over `init`, costs 3.
 pub const STALE_READ: &str = "a,begin\na,w,x,1\na,commit\na,begin\na,r,x,0\na,commit\n";
 
-/// a/1 and b/1 write x, and c/1 reads both values: each writer has to stand before the other, at a cost of 2, but no walk
-/// leads between them, and no link leads to `init`. The least cycle costs 4, and starts at a/1.
+/// a/1 and b/1 write x, and c/1 reads both values. So each writer has to come before the other, at a cost of 2, but no walk leads between
+/// them, and no link leads to `init`. The least cycle costs 4, and starts at a/1.
 pub const TWO_WRITERS: &str = "a,begin\na,w,x,1\na,commit\nb,begin\nb,w,x,2\nb,commit\n\
     c,begin\nc,r,x,1\nc,r,x,2\nc,commit\n";
 
 /// b/1 reads what a/1 wrote, and nothing leads back.
 pub const ONE_READ: &str = "a,begin\na,w,x,1\na,commit\nb,begin\nb,r,x,1\nb,commit\n";
 
-/// a/1 writes x, b/1 passes it on, and c/1 has it from b/1, but reads the initial value of x: a/1 has to stand before
-/// `init` by a walk of two pairs, which costs 3, and which `Atomic` does not allow.
+/// a/1 writes x, b/1 passes it on, and c/1 has it from b/1, but reads the initial value of x. So a/1 has to come before `init` by a walk of
+/// two pairs, which costs 3, and which `Atomic` does not allow.
 pub const LONG_WALK: &str = "a,begin\na,w,x,1\na,commit\nb,begin\nb,r,x,1\nb,w,y,1\nb,commit\n\
     c,begin\nc,r,y,1\nc,r,x,0\nc,commit\n";
 
@@ -33,7 +33,7 @@ pub const LONG_WALK: &str = "a,begin\na,w,x,1\na,commit\nb,begin\nb,r,x,1\nb,w,y
 pub const CHAIN: &str = "a,begin\na,w,x,1\na,commit\nb,begin\nb,r,x,1\nb,w,y,1\nb,commit\n\
     c,begin\nc,r,y,1\nc,commit\nc,begin\nc,r,x,0\nc,commit\n";
 
-/// Two transactions read from each other, the first one the initial value of its own key too.
+/// Two transactions read from each other, and the first one also reads the initial value of its own key.
 pub const MUTUAL: &str =
     "a,begin\na,r,x,0\na,r,y,1\na,w,x,1\na,commit\nb,begin\nb,r,x,1\nb,w,y,1\nb,commit\n";
 

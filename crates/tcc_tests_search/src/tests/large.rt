@@ -1,5 +1,4 @@
-//! What is decided of worked histories as of large ones, held against the first orders and against cycles that were worked out
-//! by hand.
+//! Decisions about worked histories treated as large ones, compared with the first orders and with cycles that were worked out by hand.
 use crate::tests::histories::{
     CHAIN, LONG_WALK, MUTUAL, ONE_READ, STALE_READ, TWO_WRITERS, graph_of,
 };
@@ -12,7 +11,7 @@ use tcc_reads::ResolveFault;
 use tcc_rows::snapshot_of;
 use tcc_slices::{records, slice};
 
-/// A read of the initial value in one session, which knows of the writer in another by two sessions between.
+/// A read of the initial value in one session, which had observed the writer in another by way of two sessions between.
 const FAR_INIT: &str = "a,begin\na,w,x,1\na,commit\na,begin\na,w,y,1\na,commit\n\
     b,begin\nb,r,y,1\nb,commit\nb,begin\nb,w,z,1\nb,commit\n\
     c,begin\nc,r,z,1\nc,commit\nc,begin\nc,r,x,0\nc,commit\n";
@@ -22,7 +21,7 @@ const CONFLICT: &str = "a,begin\na,w,x,1\na,commit\nb,begin\nb,w,x,2\nb,commit\n
     c,begin\nc,r,x,1\nc,commit\nc,begin\nc,r,x,2\nc,commit\n\
     d,begin\nd,r,x,2\nd,commit\nd,begin\nd,r,x,1\nd,commit\n";
 
-/// Three sessions that read from one another in a circle, each in a transaction before the one that is read from.
+/// Three sessions that read from one another in a cycle, each in a transaction before the one that is read from.
 const PAIRS: &str = "a,begin\na,r,z,1\na,commit\na,begin\na,w,x,1\na,commit\n\
     b,begin\nb,r,x,1\nb,commit\nb,begin\nb,w,y,1\nb,commit\n\
     c,begin\nc,r,y,1\nc,commit\nc,begin\nc,w,z,1\nc,commit\n";
@@ -38,8 +37,8 @@ fn derived(links: &[Link]) -> usize {
     count
 }
 
-/// What is decided of these records at a level has to be the first order where there is one, and else a cycle of so many
-/// links, so many of them derived.
+/// The decision about these records at a level has to be the first order where there is one, and else a cycle of this many links, this many
+/// of them derived.
 fn assert_decided(
     rt: &impl Abort,
     alloc: Global,
@@ -65,8 +64,8 @@ fn assert_decided(
     }
 }
 
-/// Where there is an order it is the first. Else there is a cycle through `init`, one of pairs, or one in which two writers
-/// stand before each other; at `Atomic` only where a single pair leads from a writer to a reader of what it wrote.
+/// Where there is an order it is the first. Else there is a cycle: one through `init`, one of pairs, or one in which two writers come
+/// before each other. At `Atomic` this is so only where a single pair leads from a writer to a reader of what it wrote.
 #[test]
 fn decisions(rt: HostRuntime) {
     let alloc = rt.alloc();
@@ -118,8 +117,8 @@ fn assert_slice(rt: &impl Abort, alloc: Global, whole: &str, wanted: &str) {
     assert!(rt; text.as_slice() == wanted.as_bytes(), "of {whole}");
 }
 
-/// A slice has the operations that the links need, in the order of the whole: of two writes of a key the visible one, of a
-/// read of an own write nothing, and no aborted transactions.
+/// A slice has the operations that the links need, in the order of the whole. Of two writes of a key it has the visible one, of a read of
+/// an own write nothing, and no aborted transactions.
 #[test]
 fn slices(rt: HostRuntime) {
     let alloc = rt.alloc();
@@ -140,8 +139,8 @@ fn slices(rt: HostRuntime) {
     );
 }
 
-/// With a cycle of more than four steps comes an order that keeps all pairs, `init` first: the only one there is where they lead along
-/// all transactions. There is none where pairs have a circle, and none with another answer.
+/// With a cycle of more than four steps comes an order that keeps all pairs, `init` first: the only one there is where they lead along all
+/// transactions. There is none where pairs form a cycle, and none with another answer.
 #[test]
 fn orders_to_judge(rt: HostRuntime) {
     let alloc = rt.alloc();
@@ -161,7 +160,7 @@ fn orders_to_judge(rt: HostRuntime) {
     }
 }
 
-/// A large snapshot is answered for with its graph, at the level that was asked for; or with its read faults.
+/// A large snapshot is answered with its graph, at the level that was asked for; or with its read faults.
 #[test]
 fn large_answers(rt: HostRuntime) {
     let alloc = rt.alloc();

@@ -32,7 +32,7 @@ fn assert_least(
     }
 }
 
-/// The last places of each session behind each transaction of the history of these records.
+/// The last places of each session after each transaction of the history of these records.
 fn assert_clocks(
     rt: &(impl Abort + Threads + Sync),
     alloc: Global,
@@ -57,8 +57,7 @@ fn assert_clocks(
     }
 }
 
-/// A step leads over a session's pair however far, or over a read; on a cycle a transaction reaches itself by at least
-/// one step.
+/// A step leads over a session's pair however far, or over a read; on a cycle a transaction reaches itself by at least one step.
 #[test]
 fn least_steps(rt: HostRuntime) {
     let alloc = rt.alloc();
@@ -166,8 +165,7 @@ fn steps_of_the_longest_chain(rt: HostRuntime) -> Result<(), Fail> {
     Ok(())
 }
 
-/// Places count aborted transactions, and a session of aborted ones alone has its column. On a cycle a transaction
-/// stands behind itself.
+/// Places count aborted transactions, and a session that has only aborted ones has its column. On a cycle a transaction comes after itself.
 #[test]
 fn places_behind(rt: HostRuntime) {
     let alloc = rt.alloc();
@@ -194,7 +192,7 @@ fn places_behind(rt: HostRuntime) {
     }
 }
 
-/// A value that is pushed stands behind those that were there.
+/// A value that is pushed comes after those that were there.
 #[test]
 fn rows_grow_at_their_end(rt: HostRuntime) -> Result<(), Fail> {
     let mut row = Row::new(vec![in rt.alloc(); 3u32]?);

@@ -27,10 +27,9 @@ fn assert_order(
     }
 }
 
-/// Nothing stands before `init`, a source stands before its reader, a writer that reaches a reader of another's value
-/// stands before the other, and what nothing holds back comes by number. There is no order where a reader of the initial
-/// value stands behind a writer, and where two read from one another. At `Atomic` a writer that reaches the reader by
-/// more than one pair holds nothing back.
+/// Nothing comes before `init`, and a source comes before its reader. A writer that reaches a reader of another's value comes before the
+/// other, and what nothing holds back comes by number. There is no order where a reader of the initial value comes after a writer, and
+/// where two read from one another. At `Atomic` a writer that reaches the reader by more than one pair holds nothing back.
 #[test]
 fn first_orders(rt: HostRuntime) {
     let alloc = rt.alloc();
@@ -106,9 +105,8 @@ fn assert_stuck(
     );
 }
 
-/// Two writers have to stand before one another, by a reader of both: each is kept of the other, and nothing but `init` is
-/// placed. A writer that has to stand before `init` leaves nothing to be placed at all. Where two read from one another no link
-/// is needed.
+/// Two writers have to come before one another, because of a reader of both: each is kept for the other, and nothing but `init` is placed.
+/// A writer that has to come before `init` leaves nothing to be placed at all. Where two read from one another no link is needed.
 #[test]
 fn what_is_left(rt: HostRuntime) {
     let alloc = rt.alloc();
@@ -133,8 +131,8 @@ fn orders_of_pairs(rt: HostRuntime) {
     assert!(rt; none);
 }
 
-/// Records of sessions in four blocks. Each of 75 readers knows one of the writers by y, and then reads x from another, so that the
-/// one has to stand before the other.
+/// Records of sessions in four blocks. Each of 75 readers has observed one of the writers by y, and then reads x from another, so that the
+/// one has to come before the other.
 fn many_sessions(rt: &impl Abort, alloc: Global, last: &str) -> String {
     let mut text = String::new(alloc);
     for k in 100..250 {
@@ -155,7 +153,7 @@ fn many_sessions(rt: &impl Abort, alloc: Global, last: &str) -> String {
     text
 }
 
-/// So many workers have to find what one finds alone: the same order, or the same links and what is left.
+/// This many workers have to find what one finds alone: the same order, or the same links and what is left.
 fn assert_same(
     rt: &(impl Abort + Threads + Sync),
     alloc: Global,
@@ -184,8 +182,8 @@ fn assert_same(
     }
 }
 
-/// Whatever the number of workers, the order is the same, and so are the links by which one stops, where a session reads the initial
-/// value of a key that it wrote.
+/// Whatever the number of workers, the order is the same. So are the links by which an order stops, where a session reads the initial value
+/// of a key that it wrote.
 #[test]
 fn by_workers(rt: HostRuntime) {
     let alloc = rt.alloc();

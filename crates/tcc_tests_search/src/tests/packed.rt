@@ -13,7 +13,7 @@ fn assert_values(rt: &(impl Abort), row: &PackedRow, all: &[Option<u32>], wanted
     assert!(rt; all == wanted);
 }
 
-/// The greatest number of 16 bits stands for none, so it has no room there itself.
+/// The greatest number of 16 bits means no value, so it has no room there itself.
 #[test]
 fn values_read_back(rt: HostRuntime) -> Result<(), Fail> {
     let alloc = rt.alloc();
@@ -33,7 +33,7 @@ fn values_read_back(rt: HostRuntime) -> Result<(), Fail> {
     Ok(())
 }
 
-/// A cap stands where there is none or a greater one, and of two caps the lesser does.
+/// A cap replaces a missing value or a greater one, and of two caps the lesser does.
 #[test]
 fn caps(rt: HostRuntime) -> Result<(), Fail> {
     let alloc = rt.alloc();

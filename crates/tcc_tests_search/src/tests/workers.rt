@@ -22,7 +22,7 @@ use tcc_rows::snapshot_of;
 use tcc_steal::{AllStart, Crew, Found, Gate, OpenGate, search, search_with};
 use tcc_txn::NoMemory;
 
-/// a/1 writes x, but a/2 reads its initial value, and so in session b with y: two cycles of three steps, over a/1 and over
+/// a/1 writes x, but a/2 reads its initial value, and the same happens in session b with y: two cycles of three steps, over a/1 and over
 /// b/1, each by way of `init`.
 const TWO_STALE_READS: &str = "a,begin\na,w,x,1\na,commit\na,begin\na,r,x,0\na,commit\n\
     b,begin\nb,w,y,1\nb,commit\nb,begin\nb,r,y,0\nb,commit\n";
@@ -30,13 +30,13 @@ const TWO_STALE_READS: &str = "a,begin\na,w,x,1\na,commit\na,begin\na,r,x,0\na,c
 /// b/1 reads what a/1 wrote.
 const ONE_READ: &str = "a,begin\na,w,x,1\na,commit\nb,begin\nb,r,x,1\nb,commit\n";
 
-/// a/1 and b/1 write x, and c/1 reads both values: a cycle of four steps, over a/1. d/1 writes z, which f/2 doesn't read,
-/// though it knows of it by way of e/1 and f/1: a cycle of five, over `init`.
+/// a/1 and b/1 write x, and c/1 reads both values: a cycle of four steps, over a/1. d/1 writes z, which f/2 doesn't read, though it had
+/// observed it by way of e/1 and f/1. That is a cycle of five, over `init`.
 const TWO_CYCLES: &str = "a,begin\na,w,x,1\na,commit\nb,begin\nb,w,x,2\nb,commit\n\
     c,begin\nc,r,x,1\nc,r,x,2\nc,commit\nd,begin\nd,w,z,1\nd,commit\n\
     e,begin\ne,r,z,1\ne,w,y,1\ne,commit\nf,begin\nf,r,y,1\nf,commit\nf,begin\nf,r,z,0\nf,commit\n";
 
-/// The prices of a graph, and what a cycle costs that its distances show.
+/// The prices of a graph, and the cost of a cycle that its distances show.
 fn seeded(
     rt: &(impl Threads + Sync),
     alloc: Global,
@@ -79,12 +79,12 @@ fn has_distances(row: &PackedRow, wanted: &[Option<u32>]) -> bool {
     true
 }
 
-/// So many workers.
+/// This many workers.
 fn workers_of(rt: &impl Abort, count: u32) -> Workers {
     Workers::new(count).expect(rt, "1 to 32 workers")
 }
 
-/// What is found has this least cost, this first start, these rows, and each start once, with a worker below `workers`.
+/// The result has this least cost, this first start, these rows, and each start once, with a worker below `workers`.
 fn assert_found(
     rt: &impl Abort,
     found: &Found,
@@ -119,7 +119,7 @@ fn stale_prices(rt: &(impl Abort + Threads + Sync), alloc: Global) -> Result<Pri
     Ok(prices_of(rt, alloc, &graph)?)
 }
 
-/// What is found of the two stale reads has their distances.
+/// The result for the two stale reads has their distances.
 fn assert_stale(rt: &impl Abort, found: &Found, workers: u32) {
     let rows: &[&[Option<u32>]] = &[
         &[Some(3), Some(1), Some(1), Some(1), Some(1)],
@@ -131,7 +131,7 @@ fn assert_stale(rt: &impl Abort, found: &Found, workers: u32) {
     assert_found(rt, found, workers, Some(3), Some(0), rows);
 }
 
-/// What these workers find of the two stale reads, which has their distances.
+/// The result of these workers for the two stale reads, which has their distances.
 fn assert_stale_reads(
     rt: &(impl Abort + Threads + Sync),
     alloc: Global,
@@ -163,8 +163,8 @@ fn any_workers(rt: HostRuntime) -> Result<(), Fail> {
     Ok(())
 }
 
-/// Searches that begin with a seed find the least cost, also where the seed is that very cost, or above it: a body fails that
-/// cuts what costs as much as the seed, or answers the seed.
+/// Searches that begin with a seed find the least cost, also where the seed is exactly that cost, or above it. A mutant fails that cuts
+/// what costs as much as the seed, or returns the seed.
 #[test]
 fn seeds(rt: HostRuntime) -> Result<(), Fail> {
     let alloc = rt.alloc();
@@ -191,7 +191,7 @@ struct Counting {
 }
 
 impl Counting {
-    /// A count of so many workers, none of which searched yet, for so many starts.
+    /// A count for this many workers, none of which has searched yet, and this many starts.
     fn new(alloc: Global, workers: u32, starts: u32) -> Result<Counting, NoMemory> {
         let mut calls = Vec::new(alloc);
         for _ in 0..workers {
@@ -217,7 +217,7 @@ impl Counting {
         all
     }
 
-    /// How often any of so many workers was seen.
+    /// How often any of the first `workers` workers was seen.
     fn all(&self, workers: u32) -> u64 {
         let mut all = 0u64;
         for worker in 0..workers {
@@ -227,7 +227,7 @@ impl Counting {
     }
 }
 
-/// A count of each start, none of which was seen yet.
+/// A count for each start, none of which was seen yet.
 fn no_calls(alloc: Global, starts: u32) -> Result<Vec<AtomicU64>, NoMemory> {
     let mut calls = Vec::new(alloc);
     for _ in 0..starts {
@@ -246,7 +246,7 @@ impl Gate for Counting {
     }
 }
 
-/// The gate is called once for each start, by the worker that stands beside it in `starts`.
+/// The gate is called once for each start, by the worker that is beside it in `starts`.
 #[test]
 fn gate_sees_each_start_once(rt: HostRuntime) -> Result<(), Fail> {
     let alloc = rt.alloc();
@@ -259,8 +259,8 @@ fn gate_sees_each_start_once(rt: HostRuntime) -> Result<(), Fail> {
     Ok(())
 }
 
-/// Every so many thieves one starts, none at 0, and ends after so many retries in a row; it counts how often it was asked
-/// for these.
+/// One in `step` thieves starts, none where that is 0, and it ends after `retries` retries in a row. It counts how often it was asked for
+/// these.
 #[derive(Drop)]
 struct Few {
     step: u32,
@@ -279,9 +279,9 @@ impl Crew for Few {
     }
 }
 
-/// Thieves that are missing or give up at once change nothing of what is found, and who doesn't start searches nothing: with
-/// no thief worker 0 has all starts. Each thief that starts is asked for its retries. So a body fails that starts all
-/// thieves, or has retries of its own.
+/// Thieves that are missing or give up at once don't change the result, and a thief that doesn't start searches nothing: with no thief
+/// worker 0 has all starts. Each thief that starts is asked for its retries. So a mutant fails that starts all thieves, or has retries of
+/// its own.
 #[test]
 fn any_crew(rt: HostRuntime) -> Result<(), Fail> {
     let alloc = rt.alloc();
@@ -304,7 +304,7 @@ fn any_crew(rt: HostRuntime) -> Result<(), Fail> {
     Ok(())
 }
 
-/// Holds its first callers until so many starts were entered.
+/// Holds its first callers until a given number of starts were entered.
 #[derive(Drop)]
 struct Meeting {
     held: u64,
@@ -323,8 +323,8 @@ impl Meeting {
         }
     }
 
-    /// All that were held met the others, and no start was entered twice: so what each worker brought back was taken in as a
-    /// whole, and none of it searched again.
+    /// All that were held met the others, and no start was entered twice. So what each worker brought back was taken in as a whole, and
+    /// none of it was searched again.
     fn assert_met(&self, rt: &impl Abort) {
         assert_eq!(rt; self.missed.load(Ordering::SeqCst), 0);
         assert_eq!(rt; self.entered.load(Ordering::SeqCst), 5);
@@ -345,7 +345,7 @@ impl Gate for Meeting {
     }
 }
 
-/// So many workers meet, by both calls: the gate holds the first callers until so many starts were entered.
+/// This many workers meet, by both calls: the gate holds the first callers until a given number of starts were entered.
 fn assert_meet(
     rt: &(impl Abort + Threads + Sync),
     alloc: Global,
@@ -371,8 +371,8 @@ fn two_starts_meet(rt: HostRuntime) -> Result<(), Fail> {
     assert_meet(&rt, rt.alloc(), 2, 1, 2)
 }
 
-/// While one of two workers is held the other takes the four starts that are left, and while four of five are held the fifth
-/// takes the last.
+/// While one of two workers is held the other takes the four starts that are left, and while four of five are held the fifth takes the
+/// last.
 #[test]
 fn others_go_on(rt: HostRuntime) -> Result<(), Fail> {
     assert_meet(&rt, rt.alloc(), 2, 1, 5)?;

@@ -12,7 +12,7 @@ use tcc_steal::{Event, RunFault, StepFault, World};
 const TWO_STALE_READS: &str = "a,begin\na,w,x,1\na,commit\na,begin\na,r,x,0\na,commit\n\
     b,begin\nb,w,y,1\nb,commit\nb,begin\nb,r,y,0\nb,commit\n";
 
-/// The beginning with so many workers.
+/// The state in which this many workers begin.
 fn begin(rt: &impl Abort, alloc: Global, prices: &Prices, workers: u32) -> World {
     let Ok(world) = World::new(alloc, prices, workers) else {
         panic!(rt; "no memory");
@@ -159,7 +159,7 @@ fn seeded(rt: HostRuntime) {
     assert_eq!(&rt; world.left(), 0);
 }
 
-/// A worker, the start that it takes if it is idle, and else whose turn it is: to look, to settle or end, or to offer.
+/// A worker; the start that it takes if it is idle; and else whose turn it is: to look, to settle or end, or to offer.
 type Choice = (u32, u32, u32);
 
 /// One event, if it is enabled. Where start and turn are one number, each event that is enabled is one choice of worker
@@ -227,7 +227,7 @@ fn finish(
     world.word()
 }
 
-/// Of two workers, whether so many events are enabled one after another, which the digits of a number choose.
+/// For two workers, whether a number of events are enabled one after another, which the digits of a number choose.
 fn act_by_digits(
     rt: &impl Abort,
     alloc: Global,
@@ -248,8 +248,8 @@ fn act_by_digits(
     true
 }
 
-/// Of two workers every list of the first six or seven enabled events, and from each to the end by the rule: the same word.
-/// The table says how many events, how many lists of as many choices there are, and how many of those are enabled.
+/// For two workers every list of the first six or seven enabled events, and from each to the end by the rule: the same word. The table has
+/// the number of events, of lists of as many choices, and of those that are enabled.
 #[test]
 fn every_run_in_small(rt: HostRuntime) {
     let alloc = rt.alloc();
@@ -302,8 +302,8 @@ fn random_run(
     finish(rt, alloc, &mut world, prices, workers)
 }
 
-/// In each of five groups two transactions write the values of a key, and from each a chain of readers leads to one that
-/// reads the other's value. The chains of each group are shorter than those of the one before, and so its cycle costs less.
+/// In each of five groups two transactions write the values of a key, and from each a chain of readers leads to one that reads the other's
+/// value. The chains of each group are shorter than those of the one before, so its cycle costs less.
 fn groups(alloc: Global) -> Result<String, Fail> {
     let mut records = String::new(alloc);
     for group in 0..5u32 {
@@ -333,8 +333,8 @@ fn groups(alloc: Global) -> Result<String, Fail> {
     Ok(records)
 }
 
-/// Random runs of two and of five workers over 41 transactions end with the word of one worker that takes the starts in
-/// ascending order: the cost of the last group's cycle. That of the first, from transaction 1, is three times as dear.
+/// Random runs of two and of five workers over 41 transactions end with the word of one worker that takes the starts in ascending order:
+/// the cost of the last group's cycle. The cycle of the first group, from transaction 1, costs three times as much.
 #[test]
 fn random_runs(rt: HostRuntime) -> Result<(), Fail> {
     let alloc = rt.alloc();

@@ -1,4 +1,4 @@
--- How a snapshot lies in memory.
+-- How a snapshot is stored in memory.
 use Rattle.std.proofs.Common.{◌≡◌, ℕ, suc, ◌≤◌, Bool, true, false, List, [], ◌∷◌, length, T, refl}
 use Rattle.std.specs.Prelude.{sum_by, slice_index_or, ◌<◌, if◌then◌else◌}
 use Rattle.std.specs.Ordering.{is_lt, nat_cmp}
@@ -39,16 +39,16 @@ sessions_code = map.code (coded_list coded_ℕ) (coded_list transaction_code)
 abbrev pub shown : List (List ℕ × List Transaction) → Sessions
 shown parts = map.from_sorted parts
 
--- how many parts stand before the session in byte order
+-- how many parts are before the session in byte order
 abbrev pub index_in : {X : Type 0} → List ℕ → List (List ℕ × X) → ℕ
 index_in session [] = 0
 index_in session (part ∷ parts) = if is_lt (slice_cmp nat_cmp part.0 session) then suc (index_in session parts) else 0
 
--- the session's part stands at the index
+-- the session's part is at the index
 abbrev pub StandsAt : {X : Type 0} → List (List ℕ × X) → List ℕ → ℕ → Type 0
 StandsAt {X} parts session at = (at < length parts) × ((d : List ℕ × X) → (slice_index_or parts at d).0 ≡ session)
 
--- the names strictly rise; there are not too many of them, and not too many transactions in all
+-- the names strictly ascend; there are not too many of them, and not too many transactions in all
 pub record IsStoredWithin (limits : Limits) (parts : List (List ℕ × List Transaction)) : Type 0 where
   pub sorted : T (map.is_sorted (slice_cmp nat_cmp) parts)
   pub few : length parts ≤ most_sessions limits

@@ -1,4 +1,4 @@
--- How the numbers of names lie in memory.
+-- How the numbers of names are stored in memory.
 use Rattle.std.specs.Prelude.{ℕ, ◌≡◌, false, List, MatchOption}
 use Rattle.std.specs.BTreeMap.{BTreeMap, get}
 use Rattle.std.specs.Ordering.{nat_cmp}

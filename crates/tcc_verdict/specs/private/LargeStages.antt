@@ -31,7 +31,7 @@ abbrev pub history_in : SizedGraph → History
 history_in (Small h) = h
 history_in (Large h) = h
 
--- it is the history of the snapshot, and small where that is
+-- the history of the snapshot, which is small where the snapshot is
 abbrev pub IsSizedHistory : Sessions → SizedGraph → Type 0
 IsSizedHistory s (Small h) = KeepsLimits s × (h ≡ history s)
 IsSizedHistory s (Large h) = (KeepsLimits s → ⊥) × (h ≡ history s)

@@ -15,7 +15,7 @@ use std::io::{Read, Write};
 use tcc_base::{Progress, Unwatched};
 use tcc_check::laws::certified;
 use tcc_graph::{Graph, LargeGraph};
-use tcc_print::Halt;
+use tcc_print::RunError;
 use tcc_reads::resolve_large;
 use tcc_txn::{LargeLimits, LargeSnapshot};
 
@@ -38,7 +38,7 @@ impl Checker for SizedGraph {
         alloc: Global,
         snapshot: &LargeSnapshot,
         notes: &mut N,
-    ) -> Result<Self, Halt> {
+    ) -> Result<Self, RunError> {
         match snapshot.small_copy(alloc)? {
             Some(small) => Ok(SizedGraph::Small(Graph::graph_of(alloc, &small, notes)?)),
             None => {
@@ -54,20 +54,24 @@ impl Checker for SizedGraph {
         alloc: Global,
         reader: R,
         progress: &P,
-    ) -> Result<LargeJudgement, Halt> {
+    ) -> Result<LargeJudgement, RunError> {
         let judgement = judged_text(alloc, self, reader, progress)?;
         Ok(judgement)
     }
 
-    fn print<W: Write>(alloc: Global, outcome: &Result<LargeJudgement, Halt>, out: &mut W) -> u8 {
+    fn print<W: Write>(
+        alloc: Global,
+        outcome: &Result<LargeJudgement, RunError>,
+        out: &mut W,
+    ) -> u8 {
         print_large_check(alloc, outcome, out)
     }
 }
 
-/// Writes the verdict on the certificate, of any version, for the history, within the large limits; or the first fault of the two; and
-/// gives the status of the run. Only where what the certificate claims is true is the status 0. A certificate of version 1 or 2 is
-/// judged as `tcc_verdict::run_check` does where the history is within the small limits, and rejected past them. What to mend,
-/// where records or reads have faults, goes to the notes.
+/// Writes the verdict on the certificate, of any version, for the history, within the large limits; or the first fault of the two;
+/// and returns the status of the run. The status is 0 only where the claim of the certificate is true. A certificate of version 1
+/// or 2 is judged as by `tcc_verdict::run_check` where the history is within the small limits, and else rejected. Where records or
+/// reads have faults, the notes say what to mend.
 pub fn run_check_large<H: Read + Drop, C: Read + Drop, W: Write, N: Write>(
     alloc: Global,
     history: H,

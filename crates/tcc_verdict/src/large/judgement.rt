@@ -9,12 +9,12 @@ use tcc_cert::LargeHead;
 use tcc_judge::Verdict;
 use tcc_rules::Judgement;
 
-/// What a certificate of version 3 claims, without all by which the claim is judged.
+/// What a certificate of version 3 claims, without the parts by which the claim is judged.
 #[derive(Clone, Copy, Debug, PartialEq, Eq)]
 pub enum LargeClaim {
-    /// Runs tell a commit order.
+    /// Runs are those of a commit order.
     Order,
-    /// Links are a cycle that costs so many steps, and perhaps that it is a least one.
+    /// Links are a cycle that costs this many steps, and perhaps a least one.
     Cycle { cost: u32, is_least: bool },
 }
 

@@ -7,9 +7,9 @@ use crate::{LargeClaim, LargeJudgement};
 use std::alloc::Global;
 use std::io::Write;
 use tcc_judge::Verdict;
-use tcc_print::printing::{print_halt, print_memory, print_text};
+use tcc_print::printing::{print_memory, print_run_error, print_text};
 use tcc_print::status::verdict_status;
-use tcc_print::{Halt, Status, accepted_text, rejected_text, verdict_text};
+use tcc_print::{RunError, Status, accepted_text, rejected_text, verdict_text};
 use tcc_rules::Claim;
 use tcc_txn::NoMemory;
 
@@ -58,7 +58,7 @@ fn status_of(judgement: &LargeJudgement) -> Status
     }
 }
 
-/// Writes a judgement, and gives the number that the run ends with. Where memory is out, that is written in its place.
+/// Writes a judgement, and returns the code that the run ends with. Where memory is out, that is written in its place.
 fn print_judgement<W: Write>(alloc: Global, judgement: &LargeJudgement, out: &mut W) -> u8
     ensures { PrintsOrMemory false (W.contents out.old) (W.contents out.new) (large_verdict_text judgement.now) (large_status judgement.now) result }
 {
@@ -68,16 +68,16 @@ fn print_judgement<W: Write>(alloc: Global, judgement: &LargeJudgement, out: &mu
     }
 }
 
-/// Writes the outcome of a check, and gives the number that the run ends with. Where memory is out, that is written in its place.
+/// Writes the outcome of a check, and returns the code that the run ends with. Where memory is out, that is written in its place.
 pub(crate) fn print_large_check<W: Write>(
     alloc: Global,
-    outcome: &Result<LargeJudgement, Halt>,
+    outcome: &Result<LargeJudgement, RunError>,
     out: &mut W,
 ) -> u8
     ensures { PrintsOrMemory false (W.contents out.old) (W.contents out.new) (large_check_text outcome.now) (large_check_status outcome.now) result }
 {
     match outcome {
         Ok(judgement) => print_judgement(alloc, judgement, out),
-        Err(halt) => print_halt(alloc, halt, false, out),
+        Err(error) => print_run_error(alloc, error, false, out),
     }
 }

@@ -9,7 +9,7 @@ use tcc_graph::{Graph, LargeGraph};
 pub(crate) enum SizedGraph {
     /// The snapshot is within the small limits.
     Small(Graph),
-    /// It is past them.
+    /// It is above them.
     Large(LargeGraph),
 }
 

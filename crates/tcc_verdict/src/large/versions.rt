@@ -16,8 +16,8 @@ use tcc_graph::LargeGraph;
 use tcc_judge::{TakenLinks, judge_taken_watched};
 use tcc_rules::{Judgement, Rule, StreamFault, Verdict};
 
-/// Judges a certificate of version 1 or 2. These are of histories within the small limits, so past them its sizes are wrong,
-/// whatever it claims; its text is read to the end, since a fault of it comes first.
+/// Judges a certificate of version 1 or 2. These are for histories within the small limits. For a larger one its sizes are wrong,
+/// whatever it claims. Its text is read to the end all the same, since a fault of the text comes first.
 fn judged_parts<R: Read>(alloc: Global, graph: &SizedGraph, parts: &mut CertReader<R>) -> Judging
     requires { is_new parts.old ≡ true }
     ensures { (bytes : List ℕ) → IsAhead R.remaining parts.old (parts_read bytes) → IsJudgedParts graph.now bytes result }
@@ -35,7 +35,7 @@ fn judged_parts<R: Read>(alloc: Global, graph: &SizedGraph, parts: &mut CertRead
     }
 }
 
-/// Judges a certificate of version 3, whose links are judged as they come.
+/// Judges a certificate of version 3, whose links are judged while they are read.
 fn judged_large<R: Read + Drop, P: Progress>(
     alloc: Global,
     graph: &LargeGraph,
@@ -51,7 +51,7 @@ fn judged_large<R: Read + Drop, P: Progress>(
     Ok(LargeJudgement::Large { claim, verdict })
 }
 
-/// What the certificate claims whose text the reader gives, and the verdict on it, by the rules for its version.
+/// The claim of the certificate whose text the reader gives, and the verdict on it, by the rules for its version.
 pub(crate) fn judged_text<R: Read + Drop, P: Progress>(
     alloc: Global,
     graph: &SizedGraph,

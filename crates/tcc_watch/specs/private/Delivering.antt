@@ -53,7 +53,7 @@ OrdersReads arriving rows reads end =
 abbrev pub AreReadsLinked : Arriving → List (List ℕ) → List (List ℕ) → List (List ℕ × ℕ) → Bool → Type 0
 AreReadsLinked arriving old new reads = IsOutcome (after arriving) old new (OrdersReads arriving new reads (length reads))
 
--- a transaction that may come, where it stands, with its writes, each once, and its reads
+-- a transaction that may come, with its session and place, its writes, each once, and its reads
 pub record IsComing (arriving : Arriving) (at : At) (writes : List (List ℕ)) (reads : List (List ℕ × ℕ)) : Type 0 where
   pub may : MayCome arriving.history arriving.entry
   pub session : at.session ≡ arriving.entry.owner

@@ -13,7 +13,7 @@ use Rattle.tcc_watch.specs.private.Values.{AreSources, AreUnwritten, AreValues, 
 abbrev pub entry_of : Entered → Entry
 entry_of e = record { owner = e.at.session; place = e.at.place; writes = e.writes.items; reads = e.reads.items }
 
--- the history of what was delivered; the names of its sessions stand elsewhere
+-- the history of what was delivered; the names of its sessions are kept elsewhere
 abbrev pub history_of : List Entered → History
 history_of entries = record { sessions = []; entries = initial ∷ map entry_of entries }
 
@@ -39,7 +39,7 @@ pub record Growth : Type 0 where
   pub names : List (List ℕ)
   pub name : List ℕ
 
--- the transaction is that one, it stands there, and it may be delivered
+-- the transaction is that one, this is its session and place, and it may be delivered
 pub record ComesNext (g : Growth) (kept : Kept) (at : At) (txn : Transaction) (reads : List (List ℕ × ℕ)) : Type 0 where
   pub held : IsKept g.old g.names kept
   pub longer : IsLonger g.old g.new g.name txn

@@ -19,7 +19,7 @@ pub record IsClosure (h : History) (rows : List (List ℕ)) : Type 0 where
   pub pairs : OrdersPairs h rows
   pub sound : AreSound h (IsRouted (causally h)) rows
 
--- what stood before another still does
+-- what came before another still does
 abbrev pub Keeps : History → List (List ℕ) → List (List ℕ) → Type 0
 Keeps h old new = (u v : ℕ) → u < count h → v < count h → IsUpTo h old u v → IsUpTo h new u v
 
@@ -61,10 +61,15 @@ pub record AreWritersIn (h : History) (end : ℕ) (x : List ℕ) (session : ℕ)
   pub written : (i : ℕ) → i < length numbers → IsWriter h (slice_index numbers i) x
   pub rising : (i k : ℕ) → i < k → k < length numbers → slice_index numbers i < slice_index numbers k
 
+-- none of these is further in its session than a place
+abbrev pub GoNoFurther : History → List ℕ → ℕ → Type 0
+GoNoFurther h numbers last = (i : ℕ) → i < length numbers → place h (slice_index numbers i) ≤ last
+
 -- all writers of a key below a number, but `init`, session by session
 pub record AreWriters (h : History) (end : ℕ) (x : List ℕ) (lists : List SessionWriters) : Type 0 where
   pub each : (i : ℕ) (d : SessionWriters) → i < length lists
       → AreWritersIn h end x (slice_index_or lists i d).session (slice_index_or lists i d).numbers
+  pub last : (i : ℕ) (d : SessionWriters) → i < length lists → GoNoFurther h (slice_index_or lists i d).numbers (slice_index_or lists i d).last
   pub all : (b : ℕ) → 0 < b → b < end → IsWriter h b x
       → (i : ℕ) × (i < length lists) × ((d : SessionWriters) → Contains (slice_index_or lists i d).numbers b)
 
@@ -81,13 +86,14 @@ pub record CanLinkSession (r : Reading) (rows : List (List ℕ)) (stands : List 
     (a : ℕ) : Type 0 where
   pub reading : IsReading r rows stands members clock a
   pub right : AreWritersIn r.history r.reader r.key writers.session writers.numbers
+  pub last : GoNoFurther r.history writers.numbers writers.last
 
 pub record CanLink (r : Reading) (rows : List (List ℕ)) (stands : List At) (members : List (List ℕ)) (lists : List SessionWriters) (clock : List ℕ)
     (a : ℕ) : Type 0 where
   pub reading : IsReading r rows stands members clock a
   pub right : AreWriters r.history r.reader r.key lists
 
--- those of these that reach the reader stand before a
+-- those of these that reach the reader come before a
 abbrev pub OrdersWriters : Reading → List (List ℕ) → List ℕ → ℕ → Type 0
 OrdersWriters r rows numbers a =
     (b : ℕ) → Contains numbers b → b ≢ a → IsReached r.history b r.reader → IsUpTo r.history rows b a
@@ -102,16 +108,16 @@ OrdersReasons r rows a = (b : ℕ) (walk : List Step) → IsReason (causally r.h
 abbrev pub IsLinked : Reading → List (List ℕ) → List (List ℕ) → ℕ → Bool → Type 0
 IsLinked r old new a = IsOutcome r.history old new (OrdersReasons r new a)
 
--- where a number stands
+-- the place of a number
 abbrev pub place_at : List At → ℕ → ℕ
 place_at stands n = (slice_index_or stands n (record { session = 0; place = 0 })).place
 
--- each of these stands somewhere, and a later one no lower
+-- each of these has a place, and a later one no lower place
 pub record RisePlaces (stands : List At) (numbers : List ℕ) : Type 0 where
   pub below : (i : ℕ) → i < length numbers → slice_index numbers i < length stands
   pub rising : (i k : ℕ) → i ≤ k → k < length numbers → place_at stands (slice_index numbers i) ≤ place_at stands (slice_index numbers k)
 
--- so many of these, from the first on, stand no further than a place, and no others
+-- the first `count` of these are no further than a place, and the others are
 pub record IsCountWithin (stands : List At) (numbers : List ℕ) (place : ℕ) (count : ℕ) : Type 0 where
   pub within : count ≤ length numbers
   pub upto : (i : ℕ) → i < count → place_at stands (slice_index numbers i) ≤ place
@@ -120,7 +126,7 @@ pub record IsCountWithin (stands : List At) (numbers : List ℕ) (place : ℕ) (
 abbrev pub NoneWithin : List At → List ℕ → ℕ → Type 0
 NoneWithin stands numbers place = (i : ℕ) → i < length numbers → place < place_at stands (slice_index numbers i)
 
--- it is the last of these that stands no further than a place
+-- it is the last of these that is no further than a place
 pub record IsLastWithin (stands : List At) (numbers : List ℕ) (place : ℕ) (last : ℕ) : Type 0 where
   pub index : ℕ
   pub inside : index < length numbers

@@ -14,7 +14,7 @@ use Rattle.tcc_watch.specs.Delivered.{IsDelivered}
 abbrev pub last_in : List (List ℕ) → ℕ → ℕ → ℕ
 last_in rows v session = slice_index (row_of rows v) session
 
--- by the rows u is v or stands before it: one comparison
+-- by the rows u is v or comes before it: one comparison
 abbrev pub IsUpTo : History → List (List ℕ) → ℕ → ℕ → Type 0
 IsUpTo h rows u v = place h u ≤ last_in rows v (owner h u)
 
@@ -40,7 +40,7 @@ IsRaisedAt h old new b a v =
     ((row_of new v ≡ row_of old v) × ((IsUpTo h old a v → ⊥) ⊎ IsUpTo h old b v))
     ⊎ (IsUpTo h old a v × ((session : ℕ) → last_in new v session ≡ max (last_in old b session) (last_in old v session)))
 
--- b stands before a now, and before all before which a stands
+-- b comes before a now, and before all that come after a
 pub record IsRaised (h : History) (old : List (List ℕ)) (new : List (List ℕ)) (b : ℕ) (a : ℕ) : Type 0 where
   pub long : length new ≡ length old
   pub each : (v : ℕ) → v < count h → IsRaisedAt h old new b a v
@@ -53,7 +53,7 @@ IsRouted j a b = (links : List Link) × IsRoute j a b links
 abbrev pub OrdersLinks : Judged → List (List ℕ) → Type 0
 OrdersLinks j rows = (l : Link) → IsLink j l → IsUpTo j.history rows (link_from l) (link_to l)
 
--- what stands before another by the rows leads to it
+-- what comes before another by the rows leads to it
 abbrev pub AreSound : History → (ℕ → ℕ → Type 0) → List (List ℕ) → Type 0
 AreSound h Leads rows = (u v : ℕ) → u < count h → v < count h → IsUpTo h rows u v → (u ≡ v) ⊎ Leads u v
 
@@ -77,7 +77,7 @@ pub record IsRowOver (rows : List (List ℕ)) (parents : List ℕ) (own : ℕ) (
   pub itself : slice_index row own ≡ place
   pub others : (session : ℕ) → session ≢ own → IsLastOver rows parents session (slice_index row session)
 
--- where the transactions stand
+-- the session and the place of each transaction
 pub record AreStands (h : History) (stands : List At) : Type 0 where
   pub long : length stands ≡ count h
   pub session : (n : ℕ) (d : At) → n < count h → (slice_index_or stands n d).session ≡ owner h n
@@ -135,7 +135,7 @@ pub record AreRaisedBelow (h : History) (old : List (List ℕ)) (new : List (Lis
   pub done : (v : ℕ) → 0 < v → v < count h → owner h v < end → IsRaisedAt h old new b a v
   pub left : (v : ℕ) → (v ≡ 0) ⊎ (end ≤ owner h v) → row_of new v ≡ row_of old v
 
--- rows that order the transactions of a history, with where these stand, and two of them of which the second isn't `init`
+-- rows that order the transactions of a history, with their sessions and places, and two of them of which the second isn't `init`
 pub record CanRaise (h : History) (rows : List (List ℕ)) (stands : List At) (members : List (List ℕ)) (b : ℕ) (a : ℕ) : Type 0 where
   pub delivered : IsDelivered h
   pub ordered : AreOrdered h rows

@@ -47,7 +47,7 @@ pub record Arriving : Type 0 where
 abbrev pub after : Arriving → History
 after arriving = with_last arriving.history arriving.entry
 
--- it may come, it has this number and stands there, and these are right before it
+-- it may come, this is its number, session and place, and these are right before it
 pub record CanArrive (arriving : Arriving) (t : Tables) (number : ℕ) (at : At) (parents : List ℕ) : Type 0 where
   pub tables : AreTables arriving.history t
   pub may : MayCome arriving.history arriving.entry

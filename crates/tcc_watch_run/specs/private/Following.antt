@@ -30,7 +30,7 @@ HasTaken old new name txn = IsFollowing new × (new.watch ≡ with_transaction o
 abbrev pub IsNamed : Sessions → ℕ → List ℕ → Type 0
 IsNamed s i name = slice_get (map.entries s) i ≡ Some (name, finished_at s i)
 
--- the first so many transactions of the session were taken
+-- the first `known` transactions of the session were taken
 pub record CanTakeFrom (f : Follower) (s : Sessions) (i : ℕ) (name : List ℕ) (known : ℕ) : Type 0 where
   pub following : IsFollowing f
   pub nested : IsNested f.watch s

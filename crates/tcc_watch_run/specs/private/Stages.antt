@@ -6,7 +6,7 @@ use Rattle.tcc_txn.specs.declared.limits.Limits.TheVariants.{Large}
 use Rattle.tcc_run.specs.LargeRuns.{IsSaidWithLarge}
 use Rattle.tcc_print.specs.Courses.{Said}
 use Rattle.tcc_print.specs.Saying.{Course}
-use Rattle.tcc_print.specs.declared.last.Last.{Last}
+use Rattle.tcc_print.specs.declared.previous.PreviousAnswer.{PreviousAnswer}
 use Rattle.tcc_print.specs.declared.options.Options.{Options}
 use Rattle.tcc_watch_run.specs.Watching.{IsAnomaly, IsWatched, WasAnomaly}
 use Rattle.tcc_watch_run.specs.declared.told.Told.{Told}
@@ -19,32 +19,32 @@ told_said told = record { text = told.text.items; status = told.status; certific
 abbrev pub IsAsExplained : Options → Sessions → Told → Type 0
 IsAsExplained options s told = (explained : Said) × IsSaidWithLarge options s explained × (told_said told ≡ record explained { certificate = None })
 
--- before the snapshot one of the others was an anomaly, or none was
+-- one of the snapshots before this one was an anomaly, or none was
 abbrev pub Knows : Options → List Sessions → Sessions → Bool → Type 0
-Knows options moments s true = WasAnomaly options moments s
-Knows options moments s false = WasAnomaly options moments s → ⊥
+Knows options checkpoints s true = WasAnomaly options checkpoints s
+Knows options checkpoints s false = WasAnomaly options checkpoints s → ⊥
 
--- and so with the snapshot itself
+-- the same, with the snapshot itself among them
 abbrev pub KnowsNow : Options → List Sessions → Sessions → Bool → Type 0
-KnowsNow options moments s true = IsAnomaly options s ⊎ WasAnomaly options moments s
-KnowsNow options moments s false = (IsAnomaly options s → ⊥) × (WasAnomaly options moments s → ⊥)
+KnowsNow options checkpoints s true = IsAnomaly options s ⊎ WasAnomaly options checkpoints s
+KnowsNow options checkpoints s false = (IsAnomaly options s → ⊥) × (WasAnomaly options checkpoints s → ⊥)
 
--- whether an anomaly was told so far
-abbrev pub was_told : Option (Last Told) → Bool
+-- whether an anomaly was reported so far
+abbrev pub was_told : Option (PreviousAnswer Told) → Bool
 was_told None = false
 was_told (Some last) = last.outcome.has_told
 
--- what was told so far is known of the snapshot, if something was finished since
-abbrev pub KnowsLast : Options → List Sessions → Sessions → Option (Last Told) → Type 0
-KnowsLast options moments s last =
-    IfSome last (λ last. last.transactions ≢ transaction_count s) → Knows options moments s (was_told last)
+-- if something was finished since, it is known whether an anomaly was reported before the snapshot
+abbrev pub KnowsLast : Options → List Sessions → Sessions → Option (PreviousAnswer Told) → Type 0
+KnowsLast options checkpoints s last =
+    IfSome last (λ last. last.transactions ≢ transaction_count s) → Knows options checkpoints s (was_told last)
 
 -- the course of a run that answers of these snapshots
 abbrev pub course : Options → List Sessions → Course Told
-course options moments = record {
+course options checkpoints = record {
   limits = Large;
   options = options;
-  is_said = IsWatched options moments;
-  is_outcome = λ s told. KnowsNow options moments s told.has_told;
+  is_said = IsWatched options checkpoints;
+  is_outcome = λ s told. KnowsNow options checkpoints s told.has_told;
   say = told_said;
 }

@@ -1,4 +1,4 @@
--- What one write took is the next part of the text.
+-- The bytes that one write took are the next part of the text.
 use Rattle.std.proofs.Common.{◌-◌, ◌++◌, length, take, drop, sym, ap, subst, ◌∙◌, arith, length-take}
 use lib.Seq.{take-add, take-take}
 use Rattle.std.specs.Io.KnownBytes.{Appends}

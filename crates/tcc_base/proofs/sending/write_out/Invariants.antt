@@ -1,4 +1,4 @@
--- `write_out` ends, since each turn sends some bytes, and what is sent is in the writer.
+-- `write_out` ends, since each turn sends some bytes. What it has sent is in the writer.
 use Rattle.std.proofs.Common.{length, ◌-◌, ◌≤◌, take}
 use Rattle.std.specs.Io.KnownBytes.{Appends}
 use Rattle.tcc_base.proofs.sending.write_out.Given as goal

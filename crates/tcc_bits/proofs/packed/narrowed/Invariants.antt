@@ -1,4 +1,4 @@
--- what stands for those so far
+-- the bits that represent the values so far
 use Rattle.std.proofs.Common.{◌≡◌, map, take}
 use Rattle.tcc_bits.specs.Packed.{value_in}
 use Rattle.tcc_bits.proofs.packed.narrowed.Given as goal

@@ -1,4 +1,4 @@
--- The mark goes out if it did not yet, and then the end.
+-- The mark is written if it was not yet, and then the end.
 use Rattle.tcc_cert.proofs.SentFacts.{failed-early, IsSent-then}
 use Rattle.tcc_cert.proofs.cycle_writer.close.Goals as goal
 

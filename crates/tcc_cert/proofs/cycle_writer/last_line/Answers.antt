@@ -1,4 +1,4 @@
--- The line goes out, and then all that waits.
+-- The line is written, and then all that waits.
 use Rattle.std.proofs.Common.{subst, append-nil}
 use Rattle.tcc_cert.specs.private.Writing.{IsSent}
 use Rattle.tcc_cert.proofs.SentFacts.{IsSent-then}

@@ -1,4 +1,4 @@
--- The lines before the rows go out, then the rows, and the end.
+-- The lines before the rows are written, then the rows, and the end.
 use Rattle.std.proofs.Common.{rules, ◌≡◌, [], refl, length}
 use Rattle.tcc_base.proofs.Failing.{on_err}
 use Rattle.tcc_cert.specs.declared.cycle_writer.CycleTable.TheVariants as table

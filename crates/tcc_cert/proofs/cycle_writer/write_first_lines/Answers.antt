@@ -1,4 +1,4 @@
--- The lines go out one after the other.
+-- The lines are written one after the other.
 use Rattle.std.proofs.Common.{[], ◌∷◌, codes, flat_map}
 use Rattle.std.proofs.lemmas.Grind.{flat_map-append}
 use Rattle.tcc_cert.specs.Texts.{line_text, link_lines}

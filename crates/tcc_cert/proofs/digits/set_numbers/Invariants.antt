@@ -1,4 +1,4 @@
--- the numbers so far stand behind what stood there
+-- the numbers so far come after what was there
 use Rattle.std.proofs.Common.{◌≡◌, ◌≤◌, ◌+◌, ◌*◌, ◌++◌, codes, decimal, flat_map, length, take}
 use Rattle.tcc_cert.specs.declared.digits.TheConstants.{NUMBER_BYTES}
 use Rattle.tcc_cert.proofs.digits.set_numbers.Given as goal

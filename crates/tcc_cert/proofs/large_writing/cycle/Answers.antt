@@ -1,4 +1,4 @@
--- The sizes go out, then the links, and then what is claimed of leastness.
+-- The sizes are written, then the links, and then what is claimed of leastness.
 use Rattle.std.proofs.Common.{flat_map}
 use Rattle.std.proofs.lemmas.Grind.{flat_map-append}
 use Rattle.tcc_cert.specs.Texts.{line_text, link_lines}

@@ -1,4 +1,4 @@
--- How many runs there are goes out, and then the runs.
+-- The count of runs is written, and then the runs.
 use Rattle.tcc_cert.proofs.SentFacts.{failed-early, IsSent-then}
 use Rattle.tcc_cert.proofs.large_writing.least.Goals as goal
 

@@ -1,4 +1,4 @@
--- The sizes go out, and then the runs.
+-- The sizes are written, and then the runs.
 use Rattle.tcc_cert.proofs.SentFacts.{failed-early, IsSent-then}
 use Rattle.tcc_cert.proofs.large_writing.order.Goals as goal
 

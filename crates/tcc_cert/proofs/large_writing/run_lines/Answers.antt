@@ -1,4 +1,4 @@
--- A run's line goes out behind the lines so far.
+-- A run's line is written after the lines so far.
 use Rattle.tcc_cert.specs.Texts.{line_text}
 use Rattle.tcc_cert.specs.LargeTexts.{run_words}
 use Rattle.tcc_cert.proofs.SentFacts.{failed}

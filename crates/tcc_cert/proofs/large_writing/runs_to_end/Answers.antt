@@ -1,4 +1,4 @@
--- The runs go out, and then the last line.
+-- The runs are written, and then the last line.
 use Rattle.std.proofs.Common.{[], ◌∷◌, codes, map}
 use Rattle.std.proofs.lemmas.Grind.{flat_map-append}
 use Rattle.tcc_cert.specs.Texts.{line_text}

@@ -1,4 +1,4 @@
--- The space goes out, then the word.
+-- The space is written, then the word.
 use Rattle.tcc_cert.proofs.SentFacts.{failed-early, IsSent-then}
 use Rattle.tcc_cert.proofs.lines.later_word.Goals as goal
 

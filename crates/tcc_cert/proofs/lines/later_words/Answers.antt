@@ -1,4 +1,4 @@
--- A word goes out behind the words so far.
+-- A word is written after the words so far.
 use Rattle.std.proofs.Common.{◌++◌, codes}
 use Rattle.tcc_cert.specs.private.LineWords.{word_text}
 use Rattle.tcc_cert.proofs.SentFacts.{failed}

@@ -1,4 +1,4 @@
--- The first word goes out, the others, and then the line feed.
+-- The first word is written, then the others, and then the line feed.
 use Rattle.std.proofs.Common.{◌++◌, codes}
 use Rattle.tcc_cert.specs.private.LineWords.{word_text}
 use Rattle.tcc_cert.proofs.SentFacts.{failed, IsSent-then, Stops-early, Stops-then, Sends-then}

@@ -1,4 +1,4 @@
--- The first number goes out, the others, and then the line feed.
+-- The first number is written, then the others, and then the line feed.
 use Rattle.std.proofs.Common.{◌++◌, codes, decimal}
 use Rattle.tcc_cert.proofs.SentFacts.{failed, IsSent-then, Stops-early, Stops-then, Sends-then}
 use Rattle.tcc_cert.proofs.Items.{flat_map-map}

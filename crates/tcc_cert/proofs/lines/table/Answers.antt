@@ -1,4 +1,4 @@
--- A row's line goes out behind the lines so far.
+-- A row's line is written after the lines so far.
 use Rattle.tcc_cert.specs.Texts.{line_text, numbers_words}
 use Rattle.tcc_cert.proofs.SentFacts.{failed}
 use Rattle.tcc_cert.proofs.Items.{Sends-read, Stops-read, Sends-all, flat_map-map}

@@ -1,4 +1,4 @@
--- One row more, or a fault.
+-- One more row, or a fault.
 use Rattle.std.proofs.Common.{sym, ap, ◌∙◌}
 use Rattle.std.proofs.lemmas.Result.{err_from_is_err_and}
 use Rattle.tcc_cert.proofs.CollectFacts.{first-rest, goes-on, kept-more, refused-end}

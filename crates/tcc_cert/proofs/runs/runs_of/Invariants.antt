@@ -1,4 +1,4 @@
--- what was told so far stands before what is still to be told
+-- the runs so far come before those that are still to come
 use Rattle.std.proofs.Common.{◌≡◌, ◌++◌, drop}
 use Rattle.tcc_cert.specs.RunsTold.{runs_told}
 use Rattle.tcc_cert.proofs.RunFacts.{behind_last}

@@ -1,4 +1,4 @@
--- The mark goes out, and then the rows.
+-- The mark is written, and then the rows.
 use Rattle.tcc_cert.proofs.SentFacts.{failed-early, IsSent-then}
 use Rattle.tcc_cert.proofs.writing.clocks.Goals as goal
 

@@ -1,4 +1,4 @@
--- A derived link's line goes out, and then its walk.
+-- A derived link's line is written, and then its walk.
 use Rattle.tcc_cert.proofs.SentFacts.{failed-early, IsSent-then}
 use Rattle.tcc_cert.proofs.writing.derived.Goals as goal
 

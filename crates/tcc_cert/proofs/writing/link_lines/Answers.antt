@@ -1,4 +1,4 @@
--- A link's lines go out behind the lines so far.
+-- A link's lines are written after the lines so far.
 use Rattle.tcc_cert.specs.Texts.{line_text, lines_text, link_lines}
 use Rattle.tcc_cert.proofs.SentFacts.{failed}
 use Rattle.tcc_cert.proofs.Items.{Sends-read, Stops-read, Sends-all, flat_map-flat_map}

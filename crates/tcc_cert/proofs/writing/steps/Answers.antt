@@ -1,4 +1,4 @@
--- A step's line goes out behind the lines so far.
+-- A step's line is written after the lines so far.
 use Rattle.tcc_cert.specs.Texts.{line_text, step_words}
 use Rattle.tcc_cert.proofs.SentFacts.{failed}
 use Rattle.tcc_cert.proofs.Items.{Sends-read, Stops-read, Sends-all, flat_map-map}

@@ -1,4 +1,4 @@
--- The first line goes out, then the claim, and last what is still outgoing.
+-- The first line is written, then the claim, and last what is still outgoing.
 use Rattle.tcc_base.proofs.Failing.{on_err}
 use Rattle.tcc_cert.proofs.SentFacts.{part_out, Sends-then, Stops-early, Stops-then, Appends-part}
 use Rattle.tcc_cert.proofs.writing.write_order.Goals as goal

@@ -1,4 +1,4 @@
--- What the rules answer is the verdict.
+-- The result of the rules is the verdict.
 use Rattle.std.proofs.Common.{Result, Ok, Err}
 use Rattle.std.specs.Prelude.{IfOk}
 use Rattle.tcc_reads.specs.History.{History}

@@ -1,4 +1,4 @@
--- One row more, or the end.
+-- One more row, or the end.
 use Rattle.std.proofs.Common.{◌∙◌}
 use Rattle.tcc_check.proofs.ClocksBehind.{clocks-all, clocks-on}
 use Rattle.tcc_check.proofs.coming.clock_rows.Goals as goal

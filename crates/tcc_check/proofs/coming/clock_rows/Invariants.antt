@@ -1,4 +1,4 @@
--- the rows so far stand before those that are still to come
+-- the rows so far come before those that are still to come
 use Rattle.std.proofs.Common.{◌≡◌, false}
 use Rattle.tcc_cert.specs.Ahead.{IsAhead, is_new, rows_left}
 use Rattle.tcc_cert.specs.Parts.{Parts}

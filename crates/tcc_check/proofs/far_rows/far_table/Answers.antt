@@ -1,4 +1,4 @@
--- What was found in all rows tells the first broken rule.
+-- What was found in all rows gives the first broken rule.
 use Rattle.std.proofs.Common.{◌≡◌, ℕ, [], arith, subst, sym, ◌∙◌}
 use Rattle.std.proofs.lemmas.List.{get_or_read}
 use Rattle.tcc_reads.specs.History.{count}

@@ -1,4 +1,4 @@
--- the rows so far were judged, and stand before those that are still to come
+-- the rows so far were judged, and come before those that are still to come
 use Rattle.std.proofs.Common.{◌≡◌, ℕ, List}
 use Rattle.tcc_reads.specs.History.{count}
 use Rattle.tcc_cert.specs.Ahead.{IsAhead}

@@ -1,4 +1,4 @@
--- One group after the other, up to the first that takes too many steps.
+-- One group after the other, up to the first that costs too many steps.
 use Rattle.std.proofs.Common.{◌≡◌, ◌<◌, ◌+◌, ℕ, List, length, get_or, take, arith, refl, sym, ap, subst, ◌∙◌}
 use Rattle.std.specs.Prelude.{All}
 use Rattle.tcc_check.specs.private.Groups.{links_by, total}

@@ -1,4 +1,4 @@
--- the links so far are below and were seen, and stand before those that are still to come
+-- the links so far are below and were seen, and come before those that are still to come
 use Rattle.std.proofs.Common.{List}
 use Rattle.tcc_reads.specs.History.{count}
 use Rattle.tcc_graph.specs.declared.link.Link.{Link}

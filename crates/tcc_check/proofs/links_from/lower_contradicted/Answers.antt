@@ -1,4 +1,4 @@
--- `init` writes every key, and others those at their written.
+-- `init` writes every key, and others the keys at their indices.
 use Rattle.std.proofs.Common.{arith}
 use Rattle.tcc_check.proofs.ByKey.{written-written}
 use Rattle.tcc_check.proofs.LinksFrom.{init-contradicts}

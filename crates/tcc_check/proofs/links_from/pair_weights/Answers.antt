@@ -1,4 +1,4 @@
--- Readers are marked, and then what stands later in session order.
+-- Readers are marked, and then what comes later in session order.
 use Rattle.std.proofs.Common.{◌≡◌, ◌⊎◌, length, rules, ◌∙◌}
 use Rattle.tcc_reads.specs.History.{count}
 use Rattle.tcc_txn.proofs.Lists.{whole}

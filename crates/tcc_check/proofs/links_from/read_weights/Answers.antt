@@ -1,4 +1,4 @@
--- Where nothing is linked, who reads from the start is marked.
+-- Where nothing is linked, the readers from the start are marked.
 use Rattle.std.proofs.Common.{◌≡◌, length, rules, ap, ◌∙◌}
 use Rattle.std.proofs.lemmas.List.{length-replicate}
 use Rattle.tcc_reads.specs.History.{count}

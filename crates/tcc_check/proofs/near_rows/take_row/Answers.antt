@@ -1,4 +1,4 @@
--- One row more of what was found, and of the links.
+-- One more row of what was found, and of the links.
 use Rattle.std.proofs.Common.{◌≡◌, ℕ, List, [], ◌∷◌, ◌++◌, rules, sym, subst}
 use Rattle.std.proofs.lemmas.List.{length_push}
 use Rattle.tcc_reads.specs.History.{count}

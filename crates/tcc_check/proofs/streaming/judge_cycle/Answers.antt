@@ -1,4 +1,4 @@
--- What was found in the links and tables is the verdict, where nothing came behind them.
+-- What was found in the links and tables is the verdict, where nothing came after them.
 use Rattle.std.proofs.Common.{refl, sym, ◌∙◌}
 use Rattle.tcc_cert.specs.Parts.{with_tables}
 use Rattle.tcc_check.proofs.JudgedFacts.{sized-answer}

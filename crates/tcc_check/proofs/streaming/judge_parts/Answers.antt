@@ -1,4 +1,4 @@
--- The claim, and then what comes behind it.
+-- The claim, and then what comes after it.
 use Rattle.std.proofs.Common.{ap, ◌∙◌}
 use Rattle.tcc_cert.specs.Parts.{parts_read, with_clocks}
 use Rattle.tcc_check.specs.Streams.{IsJudged}

@@ -1,4 +1,4 @@
--- the way so far, and that of a cycle no more is spent than it costs
+-- the way so far; for the way of a cycle, no more than it costs was spent
 use Rattle.tcc_explain.proofs.OfferLemmas.{HasWay, IsAlong}
 use Rattle.tcc_explain.proofs.warm_start.offered.Given as goal
 

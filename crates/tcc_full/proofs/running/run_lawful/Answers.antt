@@ -12,11 +12,11 @@ recorded limits asked text known s within same is =
 
 pub returns-in_ok-recording-in-Small : goal.returns-in_ok-recording-in-Small
 returns-in_ok-recording-in-Small g c =
-    c.say.ensures
+    c.answer_checkpoint.ensures
     (recorded _ _ _ c.in_ok-recording-in-Small.recording.snapshot _ c.in-Small.is c.snapshot.ensures.value c.in_ok-recording-in-Small.ensures.recorded)
 
 pub returns-in_ok-recording-in-Large : goal.returns-in_ok-recording-in-Large
 returns-in_ok-recording-in-Large g c =
-    c.say-in-Large.ensures
+    c.answer_checkpoint-in-Large.ensures
     (recorded _ _ _ c.in_ok-recording-in-Large.recording.snapshot _ c.in-Large.is c.snapshot-in-Large.ensures.value
     c.in_ok-recording-in-Large.ensures.recorded)

@@ -1,4 +1,4 @@
--- no member before this one costs just so much less
+-- no member before this one costs exactly that much less
 use Rattle.std.proofs.Common.{◌≡◌, ◌<◌, ◌+◌, ℕ, length, slice_index}
 use Rattle.tcc_lanes.specs.private.Pricing.{price_of}
 use Rattle.tcc_lanes.proofs.circling.before.Given as goal

@@ -67,7 +67,7 @@ returns-then-is_empty c =
     (row_at_end c.args.pairs.now.history c.args.source c.loop-before.before c.loop-before.steps.items new c.loop-before.words.items inv.searched inv.marked
     (omega (arith, c.count.ensures)) (none_fresh (round after) empty) (searched after))
 
--- ---- what may be reached
+-- ---- what can be reached
 -- before the next one that is open
 closed : (c : After-is_empty) (next : ℕ)
     → ((b : ℕ) → c.loop-before.next ≤ b → b < next → slice_index c.args.bound.now b ≢ NONE → slice_index c.number_fresh.new.steps b ≢ NONE)

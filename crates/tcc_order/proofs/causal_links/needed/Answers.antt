@@ -14,7 +14,7 @@ use Rattle.tcc_order.proofs.Stepped.{writers_inside}
 use Rattle.tcc_order.proofs.causal_links.needed.Goals.{After-between-writers}
 use Rattle.tcc_order.proofs.causal_links.needed.Goals as goal
 
--- the writers of the key that are looked at
+-- the writers of the key that are considered
 writers_part : (c : After-between-writers) → IsBetween (writers c.args.graph.now (key_at c.args.graph.now (key_index_in c.args.readings.now c.loop-start.start)))
     c.args.bounds.0 c.args.bounds.1 c.between-writers.result.now
 writers_part c =

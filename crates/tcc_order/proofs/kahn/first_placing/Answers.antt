@@ -16,7 +16,7 @@ use Rattle.tcc_order.proofs.QueuedLemmas.{all_ready, queued_begin, queued_popped
 use Rattle.tcc_order.proofs.kahn.first_placing.Goals.{After-first_ready}
 use Rattle.tcc_order.proofs.kahn.first_placing.Goals as goal
 
--- the queue once those that were woken are looked at
+-- the queue after those that were woken are examined
 queued : (c : After-first_ready) → AreQueued (holds c.args.graph.now c.args.kept.now) c.args.parents.now c.loop.placed.items IsAny
     c.look_at_woken.new.queue.ready c.look_at_woken.new.queue.waiting
 queued c = rw c.deref.ensures.value at c.in_ok-look_at_woken.ensures.queued

@@ -1,4 +1,4 @@
--- the line is its pieces
+-- the line is the concatenation of its pieces
 use Rattle.std.proofs.Common.{rules, ◌∙◌, sym, append_assoc}
 use Rattle.tcc_print.proofs.JsonPieces.{whole_line}
 use Rattle.tcc_print.proofs.json.unresolved.Goals as goal

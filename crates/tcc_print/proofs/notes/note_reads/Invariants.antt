@@ -1,4 +1,4 @@
--- the faults so far are noted, and all of their notes were written where that is said
+-- the faults so far have notes; where the call says so, all of these were written whole
 use Rattle.std.proofs.Common.{◌≡◌, true, map, take}
 use Rattle.tcc_print.specs.Notes.{AddsAll, AddsEach, read_note}
 use Rattle.tcc_print.proofs.notes.note_reads.Given as goal

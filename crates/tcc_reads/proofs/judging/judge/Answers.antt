@@ -15,7 +15,7 @@ loop-before-preserved c =
     c.in_ok-note.ensures.read in
     record {
       writes = λ distinct. own_ahead c.args.ops.now c.loop-before.before c.index-ops-before.result
-          c.loop-before-test.true (sym c.index-ops-before.is) (writers_in c.args.writers.now) c.args.standing.now (c.loop-before.invariant.writes distinct);
+          c.loop-before-test.true (sym c.index-ops-before.is) (writers_in c.args.writers.now) c.args.located.now (c.loop-before.invariant.writes distinct);
       faults = grind (arith, common_steps);
       reads = grind (arith, common_steps);
       within = more_within keys c.loop-before.reads.items c.note.new.reads.items op (get_or c.args.indices.now c.loop-before.before 0) number c.judgement_of-judgement.result

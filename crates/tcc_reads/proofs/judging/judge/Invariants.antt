@@ -7,12 +7,12 @@ use Rattle.tcc_reads.proofs.judging.judge.Given as goal
 
 abbrev pub invariant-loop-before : goal.invariant-loop-before
 invariant-loop-before l =
-    let ahead : List Site = sites_from l.standing.stand (take l.before l.ops) (drop l.before l.ops) in
+    let ahead : List Site = sites_from l.located.stand (take l.before l.ops) (drop l.before l.ops) in
     record {
-      writes : l.distinct ≡ true → AreOwnIn (writers_in l.writers) l.standing (take l.before l.ops) (drop l.before l.ops);
-      faults : l.faults.items ++ filter_map (fault_found (writers_in l.writers) l.standing) ahead ≡ l.initial.faults.items
-          ++ faults_found (writers_in l.writers) l.standing;
-      reads : named l.writers.keys l.reads.items ++ filter_map (source_found (writers_in l.writers) l.standing) ahead
-          ≡ sources_found (writers_in l.writers) l.standing;
+      writes : l.distinct ≡ true → AreOwnIn (writers_in l.writers) l.located (take l.before l.ops) (drop l.before l.ops);
+      faults : l.faults.items ++ filter_map (fault_found (writers_in l.writers) l.located) ahead ≡ l.initial.faults.items
+          ++ faults_found (writers_in l.writers) l.located;
+      reads : named l.writers.keys l.reads.items ++ filter_map (source_found (writers_in l.writers) l.located) ahead
+          ≡ sources_found (writers_in l.writers) l.located;
       within : All (λ (read : ℕ × ℕ). read.0 < length l.writers.keys) l.reads.items;
     }

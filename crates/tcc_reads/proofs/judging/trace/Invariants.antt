@@ -8,9 +8,9 @@ use Rattle.tcc_reads.proofs.judging.trace.Given as goal
 
 abbrev pub invariant-loop-before : goal.invariant-loop-before
 invariant-loop-before l =
-    let ahead : List Site = sites_from l.standing.stand (take l.before l.ops) (drop l.before l.ops) in
+    let ahead : List Site = sites_from l.located.stand (take l.before l.ops) (drop l.before l.ops) in
     record {
-      reads : named l.writers.keys l.reads.items ++ filter_map (source_traced (writers_in l.writers) (is_outside l.rewrites) l.standing) ahead
-          ≡ sources_traced (writers_in l.writers) (is_outside l.rewrites) l.standing;
+      reads : named l.writers.keys l.reads.items ++ filter_map (source_traced (writers_in l.writers) (is_outside l.rewrites) l.located) ahead
+          ≡ sources_traced (writers_in l.writers) (is_outside l.rewrites) l.located;
       within : All (λ (read : ℕ × ℕ). read.0 < length l.writers.keys) l.reads.items;
     }

@@ -2,7 +2,7 @@ use Rattle.std.proofs.Common.{◌≡◌, ◌≤◌, Bool, true, false, ℕ, ◌+
 use Rattle.std.proofs.lemmas.List.Elements.{All-append, All-cons, All-nil}
 use Rattle.std.specs.Prelude.{if◌then◌else◌}
 use Rattle.tcc_txn.specs.Transactions.{Transaction}
-use Rattle.tcc_reads.specs.declared.standing.Place.{Place}
+use Rattle.tcc_reads.specs.declared.located.Place.{Place}
 use Rattle.tcc_reads.specs.private.Numbers.{IsPlace}
 use Rattle.tcc_reads.proofs.Places.{more_places}
 use Rattle.tcc_reads.proofs.numbering.push_session.Goals as goal

@@ -10,21 +10,21 @@ use Rattle.tcc_reads.proofs.tracing.trace_all.Goals as goal
 
 pub split_at-requires : goal.split_at-requires
 split_at-requires g c =
-    let same = c.in_ok-standing.ensures.ops ∙ ap (λ (n : Numbered). n.stand.txn.ops) c.in_ok-standing.ensures.standing in
+    let same = c.in_ok-located.ensures.ops ∙ ap (λ (n : Numbered). n.stand.txn.ops) c.in_ok-located.ensures.located in
     omega (
       arith,
       c.len.ensures,
       enough c.args.snapshot.now c.args.places.now c.loop-place.place-index _ c.loop-place-test.true c.args.first.now.writers.keys c.loop-place.left.now
-          c.loop-place.invariant.indices c.visit.new.ops.items same,
+          c.loop-place.invariant.indices c.unpack_txn.new.ops.items same,
     )
 
 pub trace_one-requires-clause-indices : goal.trace_one-requires-clause-indices
 trace_one-requires-clause-indices g c =
-    let same = c.in_ok-standing.ensures.ops ∙ ap (λ (n : Numbered). n.stand.txn.ops) c.in_ok-standing.ensures.standing in
+    let same = c.in_ok-located.ensures.ops ∙ ap (λ (n : Numbered). n.stand.txn.ops) c.in_ok-located.ensures.located in
     rw c.deref.ensures.value
     (mine c.args.snapshot.now c.args.places.now c.loop-place.place-index _ c.loop-place-test.true c.args.first.now.writers.keys c.loop-place.left.now
-    c.loop-place.invariant.indices c.visit.new.ops.items same c.split_at.result.0.now
-    (c.split_at.ensures.front ∙ ap (λ (k : ℕ). take k c.loop-place.left.now) (c.len.ensures ∙ c.visit.new.ops.ok.0)))
+    c.loop-place.invariant.indices c.unpack_txn.new.ops.items same c.split_at.result.0.now
+    (c.split_at.ensures.front ∙ ap (λ (k : ℕ). take k c.loop-place.left.now) (c.len.ensures ∙ c.unpack_txn.new.ops.ok.0)))
 
 pub loop-place-init : goal.loop-place-init
 loop-place-init g c =
@@ -41,12 +41,12 @@ loop-place-preserved g c =
     let s = c.args.snapshot.now in
     let places = c.args.places.now in
     let i : ℕ = c.loop-place.place-index in
-    let standing = c.in_ok-standing.ensures.standing in
-    let same = c.in_ok-standing.ensures.ops ∙ ap (λ (n : Numbered). n.stand.txn.ops) standing in
+    let located = c.in_ok-located.ensures.located in
+    let same = c.in_ok-located.ensures.ops ∙ ap (λ (n : Numbered). n.stand.txn.ops) located in
     record {
       indices = theirs s places i _ c.loop-place-test.true c.args.first.now.writers.keys c.loop-place.left.now c.loop-place.invariant.indices
-          c.visit.new.ops.items same c.split_at.result.1.now (c.split_at.ensures.back ∙ ap (λ (k : ℕ). drop k c.loop-place.left.now) (c.len.ensures ∙ c.visit.new.ops.ok.0));
-      traced = traced_taken s places i _ c.loop-place-test.true c.in_ok-standing.standing standing (writers_in c.args.first.now.writers)
+          c.unpack_txn.new.ops.items same c.split_at.result.1.now (c.split_at.ensures.back ∙ ap (λ (k : ℕ). drop k c.loop-place.left.now) (c.len.ensures ∙ c.unpack_txn.new.ops.ok.0));
+      traced = traced_taken s places i _ c.loop-place-test.true c.in_ok-located.located located (writers_in c.args.first.now.writers)
           (is_outside c.args.rewrites.now) (entries_of c.args.first.now.writers.keys c.loop-place.transactions.items)
           (entries_of c.args.first.now.writers.keys c.trace_one.new.transactions.items) _ c.in_ok-trace_one.ensures.transactions
           c.loop-place.invariant.traced;

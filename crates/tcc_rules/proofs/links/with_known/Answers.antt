@@ -1,4 +1,4 @@
--- One link more.
+-- One more link.
 use Rattle.std.proofs.Common.{◌↔◌}
 use Rattle.std.specs.Prelude.{IsTrue}
 use Rattle.tcc_graph.specs.Links.{link_from}

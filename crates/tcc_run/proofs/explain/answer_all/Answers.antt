@@ -1,15 +1,15 @@
--- What comes of each moment of the recording.
+-- The result of each checkpoint of the recording.
 use Rattle.std.proofs.Common.{subst, sym}
 use Rattle.tcc_rows.specs.Answers.{records_of}
 use Rattle.tcc_txn.specs.Nested.{IsNested}
-use Rattle.tcc_print.proofs.AtMoments.{ends-there, goes-on, has-ended}
+use Rattle.tcc_print.proofs.AtCheckpoints.{ends-there, goes-on, has-ended}
 use Rattle.tcc_print.proofs.Courses.{ends-fault, none-answered, wants_memory}
 use Rattle.tcc_run.specs.private.Stages.{Follows, course}
 use Rattle.tcc_run.proofs.Earlier.{follows_on}
 use Rattle.tcc_run.proofs.explain.answer_all.Goals as goal
 
-pub moments-init : goal.moments-init
-moments-init g c = record {
+pub checkpoints-init : goal.checkpoints-init
+checkpoints-init g c = record {
   way = λ text recording. none-answered g.R.Read.remaining (course c.args.run.now.options.now) text c.args.recording.now
       (g.W.Write.contents c.args.out.now) recording;
   within = λ records within. within;
@@ -18,11 +18,11 @@ moments-init g c = record {
   going = λ none. none;
 }
 
-pub moments-preserved : goal.moments-preserved
-moments-preserved g c = record {
-  way = λ text recording. goes-on (c.moments.invariant.way text recording) c.advance.new.self c.in-Ok.moment c.in-Ok.ensures.moment
+pub checkpoints-preserved : goal.checkpoints-preserved
+checkpoints-preserved g c = record {
+  way = λ text recording. goes-on (c.checkpoints.invariant.way text recording) c.advance.new.self c.in-Ok.checkpoint c.in-Ok.ensures.checkpoint
       c.snapshot.result.now c.snapshot.ensures.finished _ c.in-Seal.is c.in_ok-said-in-Ok.said c.in_ok-said-in-Ok.ensures.said;
-  within = λ records within. c.in-Ok.ensures.within records (c.moments.invariant.within records within);
+  within = λ records within. c.in-Ok.ensures.within records (c.checkpoints.invariant.within records within);
   earlier = subst (λ s. Follows c.args.run.now.options.now.level s c.in_ok-said-in-Ok.said) c.snapshot.ensures.value c.in_ok-said-in-Ok.ensures.earlier;
   certifiable = c.in_ok-said-in-Ok.ensures.certifiable;
   going = λ none. c.in-Ok.ensures.goes_on;
@@ -30,29 +30,29 @@ moments-preserved g c = record {
 
 pub returns-in_err-said-in-Ok-clause-answers : goal.returns-in_err-said-in-Ok-clause-answers
 returns-in_err-said-in-Ok-clause-answers g c text recording within fresh =
-    ends-there (c.moments.invariant.way text recording) c.advance.new.self c.in-Ok.moment c.in-Ok.ensures.moment
+    ends-there (c.checkpoints.invariant.way text recording) c.advance.new.self c.in-Ok.checkpoint c.in-Ok.ensures.checkpoint
     c.snapshot.result.now c.snapshot.ensures.finished _ c.from_residual.result c.in_err-said-in-Ok.field-0.0 c.from_residual.ensures.1
     c.in_err-said-in-Ok.ensures.said
 
 pub returns-in-End-clause-answers : goal.returns-in-End-clause-answers
 returns-in-End-clause-answers g c text recording within fresh =
-    has-ended (c.moments.invariant.way text recording) c.advance.new.self c.in-Ok.moment c.in-Ok.ensures.moment
+    has-ended (c.checkpoints.invariant.way text recording) c.advance.new.self c.in-Ok.checkpoint c.in-Ok.ensures.checkpoint
     c.snapshot.result.now c.snapshot.ensures.finished _ c.in-End.is c.in_ok-said-in-Ok.said c.in_ok-said-in-Ok.ensures.said
 
 pub returns-in-Err-clause-answers : goal.returns-in-Err-clause-answers
 returns-in-Err-clause-answers g c text recording within fresh =
     ends-fault g.R.Read.remaining (course c.args.run.now.options.now) text
-    c.moments.recording c.advance.new.self _ _ c.moments.last (c.moments.invariant.way text recording)
-    c.in-Err.fault _ c.stop.result c.in-Err.ensures.moment (c.moments.invariant.within (records_of text) within)
-    (c.in-Err.ensures.failed (c.moments.invariant.going fresh)) c.stop.ensures.printed
+    c.checkpoints.recording c.advance.new.self _ _ c.checkpoints.last (c.checkpoints.invariant.way text recording)
+    c.in-Err.fault _ c.stop.result c.in-Err.ensures.checkpoint (c.checkpoints.invariant.within (records_of text) within)
+    (c.in-Err.ensures.failed (c.checkpoints.invariant.going fresh)) c.stop.ensures.printed
 
 pub returns-clause-answers : goal.returns-clause-answers
 returns-clause-answers g c text recording within fresh =
     wants_memory g.R.Read.remaining (course c.args.run.now.options.now) text
-    c.moments.recording c.moments.recording _ _ c.moments.last (c.moments.invariant.way text recording) _
+    c.checkpoints.recording c.checkpoints.recording _ _ c.checkpoints.last (c.checkpoints.invariant.way text recording) _
     c.print_endless.result c.print_endless.ensures
 
-pub say-requires-clause-earlier : goal.say-requires-clause-earlier
-say-requires-clause-earlier g c κs within =
-    follows_on c.args.run.now.options.now.level c.moments.recording.snapshot c.snapshot.result.now c.moments.last
-    (subst (IsNested c.moments.recording.snapshot) (sym c.snapshot.ensures.value) c.in-Ok.ensures.continues) c.moments.invariant.earlier
+pub answer_checkpoint-requires-clause-earlier : goal.answer_checkpoint-requires-clause-earlier
+answer_checkpoint-requires-clause-earlier g c κs within =
+    follows_on c.args.run.now.options.now.level c.checkpoints.recording.snapshot c.snapshot.result.now c.checkpoints.last
+    (subst (IsNested c.checkpoints.recording.snapshot) (sym c.snapshot.ensures.value) c.in-Ok.ensures.continues) c.checkpoints.invariant.earlier

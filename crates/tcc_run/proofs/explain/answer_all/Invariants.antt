@@ -1,5 +1,5 @@
--- the snapshots at the seals so far were answered, the other items are ahead, an anomaly that was answered is one of a snapshot that
--- went on, and what was said last has its tables, where a certificate is wanted
+-- the snapshots at the seals so far were answered, and the other items are ahead. An anomaly that was answered is one of a snapshot that
+-- was continued, and what was said last has its tables, where a certificate is wanted
 use Rattle.std.proofs.Common.{◌≡◌, ℕ, List, [], None}
 use Rattle.std.specs.Prelude.{IfSome}
 use Rattle.tcc_rows.specs.Ahead.{fault_met}
@@ -12,8 +12,8 @@ use Rattle.tcc_print.proofs.Courses.{HasAnswered}
 use Rattle.tcc_run.specs.private.Stages.{Follows, IsCertifiable, course}
 use Rattle.tcc_run.proofs.explain.answer_all.Given as goal
 
-abbrev pub invariant-moments : goal.invariant-moments
-invariant-moments g l = record {
+abbrev pub invariant-checkpoints : goal.invariant-checkpoints
+invariant-checkpoints g l = record {
   way : (text : List ℕ) → IsRecording Small g.R.Read.remaining l.initial.recording [] (answers_of text)
       → HasAnswered g.R.Read.remaining (course l.run.options.now) text l.recording (g.W.Write.contents l.initial.out) (g.W.Write.contents l.out) l.last;
   within : (records : List Record) → IsWithin g.R.Read.remaining l.initial.recording.rows records → IsWithin g.R.Read.remaining l.recording.rows records;

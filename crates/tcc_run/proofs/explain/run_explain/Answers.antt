@@ -1,4 +1,4 @@
--- All was answered, and the certificate of the last answer comes behind; or the run ended before.
+-- All was answered, and the certificate of the last answer comes after; or the run ended before.
 use Rattle.std.proofs.lemmas.Option.{IfSome_then}
 use Rattle.tcc_run.proofs.Runs.{concluded, early}
 use Rattle.tcc_run.proofs.explain.run_explain.Goals as goal

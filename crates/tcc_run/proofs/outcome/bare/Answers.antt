@@ -1,10 +1,10 @@
 use Rattle.std.proofs.Common.{None}
 use Rattle.std.proofs.lemmas.Bool.{false≢true}
-use Rattle.tcc_run.specs.declared.outcome.Outcome.TheVariants as outcome
+use Rattle.tcc_run.specs.declared.outcome.ExplainOutcome.TheVariants as outcome
 use Rattle.tcc_run.proofs.Runs.{told}
 use Rattle.tcc_run.proofs.outcome.bare.Goals as goal
 
--- tables are only where a certificate is wanted
+-- tables are there only where a certificate is wanted
 pub unreachable-requires : goal.unreachable-requires
 unreachable-requires g c = false≢true (rw c.in-Tabled.is at c.in_ok-answered.ensures).2
 

@@ -1,6 +1,6 @@
 use Rattle.std.proofs.Common.{◌∙◌, subst}
 use Rattle.tcc_reads.specs.Refusals.{IsRefusal}
-use Rattle.tcc_run.specs.declared.outcome.Outcome.TheVariants as outcome
+use Rattle.tcc_run.specs.declared.outcome.ExplainOutcome.TheVariants as outcome
 use Rattle.tcc_run.proofs.Earlier.{own_earlier}
 use Rattle.tcc_run.proofs.Runs.{told}
 use Rattle.tcc_run.proofs.outcome.tabled.Goals as goal

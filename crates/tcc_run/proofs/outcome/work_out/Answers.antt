@@ -1,4 +1,4 @@
--- No link of the earlier anomaly is missed, by the law of growth.
+-- No link of the earlier anomaly is missing, by the law of growth.
 use Rattle.std.proofs.Common.{subst}
 use Rattle.std.specs.Prelude.{IfSome}
 use Rattle.tcc_explain.specs.Next.{IsNextRefusal}

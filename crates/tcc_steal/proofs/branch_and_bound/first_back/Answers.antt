@@ -5,7 +5,7 @@ use Rattle.tcc_steal.specs.private.Working.{CameBack}
 use Rattle.tcc_steal.proofs.Settling.{row_here}
 use Rattle.tcc_steal.proofs.branch_and_bound.first_back.Goals as goal
 
--- what no number below n has, nor n, no number below n + 1 has
+-- if no number below n has it, nor n, then no number below n + 1 has it
 one_more : (P : ℕ → Type 0) (n : ℕ) → ((k : ℕ) → k < n → P k → ⊥) → (P n → ⊥) → (k : ℕ) → k < n + 1 → P k → ⊥
 one_more P n below here k l = go (cases_order k n)
   where

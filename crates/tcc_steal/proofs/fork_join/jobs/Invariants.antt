@@ -3,7 +3,7 @@ use Rattle.std.proofs.Common.{◌≡◌, ℕ, length}
 use Rattle.crossbeam_deque.specs.Handles.{worker_deque, worker_flavor, worker_view}
 use Rattle.tcc_derive.specs.Prices.{Tables}
 use Rattle.tcc_steal.specs.private.StartQueues.{IsTaker}
-use Rattle.tcc_steal.specs.private.Working.{IsSeat, AreThieves, AreJobs, AreJobsOf}
+use Rattle.tcc_steal.specs.private.Working.{IsSeat, AreThieves, AreThiefInits, AreThiefInitsOf}
 use Rattle.tcc_steal.proofs.fork_join.jobs.Given as goal
 
 abbrev pub invariant-loop-number : goal.invariant-loop-number
@@ -13,5 +13,5 @@ invariant-loop-number g l =
     × (worker_flavor l.owner ≡ worker_flavor l.fn.owner)
     × ((count : ℕ) → IsTaker count (worker_view l.fn.owner) → IsTaker count (worker_view l.owner))
     × ((t : Tables) → IsSeat t l.bound l.fn.seat → IsTaker (length t.prices) (worker_view l.fn.owner)
-    → AreJobs t l.bound (worker_deque l.fn.owner) l.jobs.items)
-    × ((workers : ℕ) → AreThieves workers l.thieves → AreJobsOf workers l.jobs.items)
+    → AreThiefInits t l.bound (worker_deque l.fn.owner) l.jobs.items)
+    × ((workers : ℕ) → AreThieves workers l.thieves → AreThiefInitsOf workers l.jobs.items)

@@ -1,6 +1,6 @@
 use Rattle.std.proofs.Common.{◌≡◌, ◌++◌, ◌∷◌, [], ◌∙◌, length, arith}
 use Rattle.std.proofs.lemmas.List.Elements.{All-push}
-use Rattle.tcc_steal.specs.declared.searched.Searched.{Searched}
+use Rattle.tcc_steal.specs.declared.searched.EndedSearch.{EndedSearch}
 use Rattle.tcc_steal.proofs.Slots.{one_more}
 use Rattle.tcc_steal.proofs.worker_loop.bring_back.Goals as goal
 
@@ -24,5 +24,5 @@ loop-preserved g c =
             worker = omega (arith, ens.searched.1, number, below);
             done = ens.done;
           })),
-      rw pushed (All-push (λ (x : Searched). x.worker ≡ c.args.worker.number) es e by (ens.searched.1 ∙ number)),
+      rw pushed (All-push (λ (x : EndedSearch). x.worker ≡ c.args.worker.number) es e by (ens.searched.1 ∙ number)),
     )

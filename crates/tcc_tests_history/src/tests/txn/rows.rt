@@ -1,5 +1,5 @@
-//! What no clause says of `Rows`: that memory and readers that do not fail lead to the answers, how
-//! readers that fail are met, and that a reader is asked no more after its end.
+//! What no clause says about `Rows`. With memory, and readers that do not fail, it gives the answers. The tests also show how it meets
+//! readers that fail, and that it asks a reader for no more after its end.
 use std::alloc::Global;
 use std::cell::Cell;
 use std::io::{self, ErrorKind, Read};
@@ -27,7 +27,7 @@ fn run_out<R: Read + Drop>(
     panic!(rt; "the rows have no end")
 }
 
-// So many items, and then this fault or the end, again and again.
+// This many items, and then this fault or the end, again and again.
 fn gives<R: Read + Drop>(
     rt: &impl Abort,
     alloc: Global,
@@ -46,7 +46,7 @@ fn gives<R: Read + Drop>(
     assert!(rt; again == *fault);
 }
 
-// The bytes, so many at a time, and then an error, where there is one.
+// The bytes, at most `most` at a time, and then an error, where there is one.
 #[derive(Drop)]
 struct Pieces<'a> {
     bytes: &'a [u8],
@@ -91,12 +91,12 @@ impl Read for Reviving<'_> {
     }
 }
 
-// How many records end in the bytes, each of which is a line.
+// How many records end in the bytes; each is a line.
 fn lines_of(bytes: &[u8]) -> u64 {
     bytes.iter().filter(|byte| **byte == b'\n').count() as u64
 }
 
-// What an item is, and of a transaction whether it committed, and how many operations it has.
+// What an item is, and for a transaction whether it committed, and how many operations it has.
 fn told(item: &Item) -> (&[u8], Option<(bool, usize)>) {
     match item {
         Item::Finished(session, txn) => (session.bytes(), Some((txn.committed(), txn.ops().len()))),
@@ -124,8 +124,8 @@ fn gives_what_was_finished(rt: HostRuntime) -> Result<(), Fail> {
     Ok(())
 }
 
-// A reader that fails after any number of bytes: the items of the lines before, and the row after
-// them. The commit is line 5, the seal line 6, the abort line 7.
+// A reader that fails after any number of bytes: the items of the lines before, and the row after them. The commit is line 5, the seal line
+// 6, the abort line 7.
 #[test]
 fn readers_that_fail(rt: HostRuntime) {
     let alloc = rt.alloc();
@@ -160,7 +160,7 @@ fn readers_that_give_little(rt: HostRuntime) {
     }
 }
 
-// An end within the first three bytes, behind a line, and behind a record that no line feed ends.
+// An end within the first three bytes, after a line, and after a record that no line feed ends.
 #[test]
 fn the_end_is_final(rt: HostRuntime) {
     let alloc = rt.alloc();

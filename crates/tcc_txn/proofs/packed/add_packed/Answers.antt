@@ -31,7 +31,7 @@ insert-requires c =
     let absent = rw c.deref.ensures.value at c.in-Err.ensures in
     omega (arith, absent.0, index_in-within c.args.session c.args.parts.now.items)
 
--- with the names that there are now the part has the transactions that it had
+-- with the names that are there now, the part has the transactions that it had
 kept_part : (c : After-push_packed) → txns_in c.push_packed.new.keys c.index_mut.result.now.1 ≡ txns_in c.args.keys.now c.index_mut.result.now.1
 kept_part c =
     let found = rw c.deref.ensures.value at c.in-Ok.ensures in
@@ -73,7 +73,7 @@ returns-in-Ok-clause-packed c =
     All-set (λ (p : Part). ArePacked all p.1) parts c.in-Ok.at (part.0, c.push_packed.new.txns) c.push_packed.ensures.packed
     (all-on c.args.keys.now all c.push_packed.ensures.more parts c.requires.packed)
 
--- with the names that there are now the sessions have the transactions that they had
+-- with the names that are there now, the sessions have the transactions that they had
 same_parts : (c : After-first_packed) → sessions_in c.first_packed.new.keys c.args.parts.now.items ≡ sessions_in c.args.keys.now c.args.parts.now.items
 same_parts c = sessions-on c.args.keys.now c.first_packed.new.keys c.first_packed.ensures.more c.args.parts.now.items c.requires.packed
 

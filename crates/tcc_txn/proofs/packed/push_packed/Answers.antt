@@ -7,7 +7,7 @@ use Rattle.tcc_txn.proofs.PackedOps.{named-on, packed-kept, prefix_front, txns-k
 use Rattle.tcc_txn.proofs.packed.push_packed.Goals.{After-truncate}
 use Rattle.tcc_txn.proofs.packed.push_packed.Goals as goal
 
--- what was cut off leaves what there was
+-- after the cut the old operations are left
 cut : (old behind new : List PackedOp) (count : ℕ) → IsPrefix old behind → count ≡ length old → new ≡ take count behind → new ≡ old
 cut old behind new count begins is taken = taken ∙ ap (λ (n : ℕ). take n behind) is ∙ prefix_front old behind begins
 

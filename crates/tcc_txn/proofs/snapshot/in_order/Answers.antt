@@ -9,7 +9,7 @@ use Rattle.tcc_txn.specs.private.SnapshotStorage.{IsStoredWithin, shown}
 use Rattle.tcc_txn.proofs.StoredSnapshot.{stored_sorted, shown_parts}
 use Rattle.tcc_txn.proofs.snapshot.in_order.Goals as goal
 
--- the sorted parts fill the vector in which the parts lay
+-- the sorted parts fill the vector that had the parts
 sorted_fill : (parts : Vec (List ℕ × Vec Transaction)) (sorted : List (List ℕ × Vec Transaction)) → IsPermutation parts.items sorted
     → take parts.len (sorted ++ drop (length sorted) parts.items) ≡ sorted
 sorted_fill parts sorted moved =

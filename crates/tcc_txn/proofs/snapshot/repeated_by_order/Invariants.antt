@@ -6,7 +6,7 @@ use Rattle.tcc_txn.specs.Snapshots.{first_repeated}
 use Rattle.tcc_txn.proofs.Parts.{has_name, names_of}
 use Rattle.tcc_txn.proofs.snapshot.repeated_by_order.Given as goal
 
--- the first name that is repeated stands from here on, and the names before it are in the set
+-- the first repeated name is from here on, and the names before it are in the set
 abbrev pub invariant-loop-part : goal.invariant-loop-part
 invariant-loop-part l =
     (first_repeated (names_of (take l.part-index l.parts)) (names_of (drop l.part-index l.parts)) ≡ first_repeated [] (names_of l.parts))

@@ -5,7 +5,7 @@ use Rattle.tcc_txn.specs.Snapshots.{first_repeated}
 use Rattle.tcc_txn.proofs.Parts.{names_of, has_name, repeated_at}
 use Rattle.tcc_txn.proofs.snapshot.repeated_by_pairs.Goals as goal
 
--- what the part that stands at i adds
+-- what the part at i adds
 at_part : (parts : List (List ℕ × Vec Transaction)) (i : ℕ) (part : List ℕ × Vec Transaction) (b : Bool) → part ≡ get_or parts i part
     → b ≡ has_name (take i parts) part.0
     → cond (has_name (take i parts) (get_or parts i part).0) (Some (get_or parts i part).0)

@@ -1,10 +1,10 @@
--- What comes of the certificate for the history, or of records without a history, and the notes of it.
+-- The outcome for a certificate and the history, or for records without a history, and its notes.
 use Rattle.std.proofs.Common.{Err, sym, subst}
 use Rattle.std.proofs.lemmas.Option.{IfSome_then}
 use Rattle.tcc_txn.specs.declared.limits.Limits.{Limits}
 use Rattle.tcc_verdict.specs.private.Stages.{IsMadeOf}
 use Rattle.tcc_verdict.proofs.Checked.{of_both, nothing_made_by, for_any, from_two}
-use Rattle.tcc_verdict.proofs.NotesLemmas.{halt_noted, text_noted}
+use Rattle.tcc_verdict.proofs.NotesLemmas.{run_error_noted, text_noted}
 use Rattle.tcc_verdict.proofs.checker.checked.Goals as goal
 
 pub returns-in_err-graph-clause-given : goal.returns-in_err-graph-clause-given
@@ -17,7 +17,7 @@ returns-in_err-graph-clause-given g c = IfSome_then (g.H.Read.remaining c.args.h
 pub returns-in_err-graph-clause-noted : goal.returns-in_err-graph-clause-noted
 returns-in_err-graph-clause-noted g c = IfSome_then (g.H.Read.remaining c.args.history) c.in_err-graph.ensures.noted
     (λ records noted. for_any (g.R.Read.remaining c.args.certificate)
-    (λ text. halt_noted _ _ g.C.Limits.Bounds.limits records c.in_err-graph.field-0.0 c.from_residual.result c.from_residual.ensures.1 noted))
+    (λ text. run_error_noted _ _ g.C.Limits.Bounds.limits records c.in_err-graph.field-0.0 c.from_residual.result c.from_residual.ensures.1 noted))
 
 pub returns-clause-given : goal.returns-clause-given
 returns-clause-given g c = IfSome_then (g.H.Read.remaining c.args.history) c.in_ok-graph.ensures.made

@@ -1,9 +1,9 @@
--- What ends the records, or what comes of the snapshot of all that they finish, and the notes of it.
+-- What ends the records, or the outcome for the snapshot of all that they finish, and its notes.
 use Rattle.std.proofs.Common.{◌∙◌, subst}
 use Rattle.std.proofs.lemmas.Option.{IfSome_then}
 use Rattle.tcc_print.specs.Notes.{AddsEach}
 use Rattle.tcc_verdict.specs.Noting.{snapshot_notes}
-use Rattle.tcc_verdict.proofs.Checked.{for_any, of_snapshot, unrecorded}
+use Rattle.tcc_verdict.proofs.Checked.{of_snapshot, unrecorded}
 use Rattle.tcc_verdict.proofs.NotesLemmas.{fault_noted, snapshot_noted}
 use Rattle.tcc_verdict.proofs.checker.history_of.Goals as goal
 
@@ -13,9 +13,8 @@ returns-in_err-recording-clause-made g c = IfSome_then (g.R.Read.remaining c.arg
     c.from_residual.ensures.1)
 
 pub returns-in_err-recording-clause-noted : goal.returns-in_err-recording-clause-noted
-returns-in_err-recording-clause-noted g c = for_any (g.R.Read.remaining c.args.reader)
-    (λ records. fault_noted _ _ g.C.Limits.Bounds.limits records c.in_err-recording.field-0.0 c.from_residual.result c.from_residual.ensures.1
-    c.in_err-recording.ensures.noted.0 c.in_err-recording.ensures.noted.1)
+returns-in_err-recording-clause-noted g c = IfSome_then (g.R.Read.remaining c.args.reader) c.in_err-recording.ensures.shown
+    (λ records stops. fault_noted _ _ g.C.Limits.Bounds.limits records c.in_err-recording.field-0.0 c.from_residual.result c.from_residual.ensures.1 stops)
 
 pub returns-clause-made : goal.returns-clause-made
 returns-clause-made g c = IfSome_then (g.R.Read.remaining c.args.reader) c.in_ok-recording.ensures.recorded

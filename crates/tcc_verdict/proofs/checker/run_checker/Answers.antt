@@ -1,4 +1,4 @@
--- What was printed is what a run may print, and the notes are those of what came of the bytes.
+-- What was printed is what a run may print, and the notes are those of the outcome for the bytes.
 use Rattle.std.proofs.Common.{subst, sym}
 use Rattle.std.proofs.lemmas.Option.{IfSome_then}
 use Rattle.tcc_txn.specs.declared.limits.Limits.{Limits}

@@ -1,6 +1,6 @@
 use Rattle.std.proofs.Common.{Bool, true, sym, subst, arith}
 use Rattle.tcc_watch.specs.declared.linking.SessionWriters.{SessionWriters}
-use Rattle.tcc_watch.specs.private.Links.{AreWritersIn, IsLinkedIn}
+use Rattle.tcc_watch.specs.private.Links.{AreWritersIn, GoNoFurther, IsLinkedIn}
 use Rattle.tcc_watch.proofs.Settled.{lists_more, reasons_done}
 use Rattle.tcc_watch.proofs.linking.link_read.Goals as goal
 
@@ -18,6 +18,8 @@ link_session-requires g c =
       };
       right = subst (λ (z : SessionWriters). AreWritersIn g.read.history g.read.reader g.read.key z.session z.numbers) (sym c.list-item.is)
           (c.requires.right.each c.loop-list.list-index c.list-item.result c.loop-list-test.true);
+      last = subst (λ (z : SessionWriters). GoNoFurther g.read.history z.numbers z.last) (sym c.list-item.is)
+          (c.requires.right.last c.loop-list.list-index c.list-item.result c.loop-list-test.true);
     }
 
 pub loop-list-preserved : goal.loop-list-preserved

@@ -1,7 +1,18 @@
-use Rattle.std.proofs.Common.{ℕ, List, inl, slice_index, subst}
+use Rattle.std.proofs.Common.{ℕ, List, ◌∙◌, inl, slice_index, subst, sym}
+use Rattle.std.proofs.lemmas.Bool.{leb-true}
+use Rattle.tcc_watch.specs.private.Rows.{last_in}
 use Rattle.tcc_watch.specs.private.Links.{IsLastWithin, NoneWithin, IsSettled, IsLinkedIn}
-use Rattle.tcc_watch.proofs.Settled.{places_rise, none_reaches, all_before, can_settle, settled_all, if_ok}
+use Rattle.tcc_watch.proofs.Settled.{places_rise, all_passed, none_reaches, all_before, can_settle, settled_all, if_ok}
 use Rattle.tcc_watch.proofs.linking.link_session.Goals as goal
+
+pub returns-then-are_before : goal.returns-then-are_before
+returns-then-are_before g c = (
+  c.requires.reading.closure,
+  (λ u v at_u at_v up. up),
+  all_passed g.read c.args.closure.now c.args.stands.now c.args.members.now c.args.writers.now c.args.clock.now c.args.a c.requires
+      (leb-true c.args.writers.now.last (last_in c.args.closure.now c.args.a c.args.writers.now.session)
+      (sym c.are_before.ensures ∙ c.if-are_before.true)),
+)
 
 pub last_within-requires : goal.last_within-requires
 last_within-requires g c =

@@ -4,8 +4,8 @@ use Rattle.tcc_watch.specs.private.Values.{NotesValue}
 use Rattle.tcc_watch.proofs.OperationLemmas.{value_noted}
 use Rattle.tcc_watch.proofs.values.note_value.Goals as goal
 
-pub returns-in-Ok : goal.returns-in-Ok
-returns-in-Ok c =
-    subst (λ (z : Op). NotesValue c.args.ops.now c.args.number z c.args.values.now c.insert.new.self) (sym c.in-Put.is)
-    (value_noted c.args.ops.now c.args.number c.in-Put.key c.in-Put.value c.args.values.now c.insert.new.self c.number_shown-shown.result c.number_shown-shown.ensures
-    c.in-Ok.ensures.updates)
+pub returns : goal.returns
+returns c =
+    subst (λ (z : Op). NotesValue c.args.ops.now c.args.number z c.args.values.now c.put.new.self) (sym c.in-Put.is)
+    (value_noted c.args.ops.now c.args.number c.in-Put.key c.in-Put.value c.args.values.now c.put.new.self c.number_shown-shown.result c.number_shown-shown.ensures
+    c.in_ok-put.ensures)

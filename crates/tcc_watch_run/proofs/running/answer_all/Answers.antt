@@ -1,18 +1,18 @@
--- What comes of each moment of the recording.
+-- The result of each checkpoint of the recording.
 use Rattle.std.proofs.Common.{subst, sym}
 use Rattle.tcc_txn.specs.Nested.{IsNested}
 use Rattle.tcc_txn.proofs.Nesting.{nested_on}
-use Rattle.tcc_print.proofs.AtMoments.{ends-there, goes-on, has-ended}
+use Rattle.tcc_print.proofs.AtCheckpoints.{ends-there, goes-on, has-ended}
 use Rattle.tcc_print.proofs.Courses.{ends-fault, none-answered, wants_memory}
 use Rattle.tcc_run.specs.LargeRuns.{records_of}
-use Rattle.tcc_watch_run.specs.Watching.{moments_of}
+use Rattle.tcc_watch_run.specs.Watching.{checkpoints_of}
 use Rattle.tcc_watch_run.specs.private.Stages.{course}
 use Rattle.tcc_watch_run.proofs.Earlier.{knows_at}
 use Rattle.tcc_watch_run.proofs.running.answer_all.Goals as goal
 
-pub moments-init : goal.moments-init
-moments-init g c = record {
-  way = λ text recording. none-answered g.R.Read.remaining (course c.args.run.now.options.now (moments_of text)) text c.args.recording.now
+pub checkpoints-init : goal.checkpoints-init
+checkpoints-init g c = record {
+  way = λ text recording. none-answered g.R.Read.remaining (course c.args.run.now.options.now (checkpoints_of text)) text c.args.recording.now
       (g.W.Write.contents c.args.out.now) recording;
   within = λ records within. within;
   going = λ none. none;
@@ -20,53 +20,53 @@ moments-init g c = record {
   nested = c.requires.nested;
 }
 
-pub moments-preserved : goal.moments-preserved
-moments-preserved g c = record {
+pub checkpoints-preserved : goal.checkpoints-preserved
+checkpoints-preserved g c = record {
   way = λ text recording.
-      let way = c.moments.invariant.way text recording in
-      goes-on way c.advance.new.self c.in-Ok.moment c.in-Ok.ensures.moment
+      let way = c.checkpoints.invariant.way text recording in
+      goes-on way c.advance.new.self c.in-Ok.checkpoint c.in-Ok.ensures.checkpoint
       c.snapshot.result.now c.snapshot.ensures.finished _ c.in-Seal.is c.in_ok-said-in-Ok.said
-      (c.in_ok-said-in-Ok.ensures.said (moments_of text)
-      (knows_at g.R.Read.remaining c.args.run.now.options.now text c.moments.recording _ _ c.moments.last way c.advance.new.self c.in-Ok.moment
-      c.in-Ok.ensures.moment c.snapshot.result.now c.snapshot.ensures.finished));
-  within = λ records within. c.in-Ok.ensures.within records (c.moments.invariant.within records within);
+      (c.in_ok-said-in-Ok.ensures.said (checkpoints_of text)
+      (knows_at g.R.Read.remaining c.args.run.now.options.now text c.checkpoints.recording _ _ c.checkpoints.last way c.advance.new.self c.in-Ok.checkpoint
+      c.in-Ok.ensures.checkpoint c.snapshot.result.now c.snapshot.ensures.finished));
+  within = λ records within. c.in-Ok.ensures.within records (c.checkpoints.invariant.within records within);
   going = λ none. c.in-Ok.ensures.goes_on;
   following = c.in_ok-said-in-Ok.ensures.follows;
-  nested = subst (IsNested c.say.new.follower.watch) c.snapshot.ensures.value c.in_ok-said-in-Ok.ensures.nests;
+  nested = subst (IsNested c.answer_checkpoint.new.follower.watch) c.snapshot.ensures.value c.in_ok-said-in-Ok.ensures.nests;
 }
 
 pub returns-in_err-said-in-Ok : goal.returns-in_err-said-in-Ok
 returns-in_err-said-in-Ok g c text recording within fresh =
-    let way = c.moments.invariant.way text recording in
-    ends-there way c.advance.new.self c.in-Ok.moment c.in-Ok.ensures.moment
+    let way = c.checkpoints.invariant.way text recording in
+    ends-there way c.advance.new.self c.in-Ok.checkpoint c.in-Ok.ensures.checkpoint
     c.snapshot.result.now c.snapshot.ensures.finished _ c.from_residual.result c.in_err-said-in-Ok.field-0.0 c.from_residual.ensures.1
-    (c.in_err-said-in-Ok.ensures.said (moments_of text)
-    (knows_at g.R.Read.remaining c.args.run.now.options.now text c.moments.recording _ _ c.moments.last way c.advance.new.self c.in-Ok.moment
-    c.in-Ok.ensures.moment c.snapshot.result.now c.snapshot.ensures.finished))
+    (c.in_err-said-in-Ok.ensures.said (checkpoints_of text)
+    (knows_at g.R.Read.remaining c.args.run.now.options.now text c.checkpoints.recording _ _ c.checkpoints.last way c.advance.new.self c.in-Ok.checkpoint
+    c.in-Ok.ensures.checkpoint c.snapshot.result.now c.snapshot.ensures.finished))
 
 pub returns-in-End : goal.returns-in-End
 returns-in-End g c text recording within fresh =
-    let way = c.moments.invariant.way text recording in
-    has-ended way c.advance.new.self c.in-Ok.moment c.in-Ok.ensures.moment
+    let way = c.checkpoints.invariant.way text recording in
+    has-ended way c.advance.new.self c.in-Ok.checkpoint c.in-Ok.ensures.checkpoint
     c.snapshot.result.now c.snapshot.ensures.finished _ c.in-End.is c.in_ok-said-in-Ok.said
-    (c.in_ok-said-in-Ok.ensures.said (moments_of text)
-    (knows_at g.R.Read.remaining c.args.run.now.options.now text c.moments.recording _ _ c.moments.last way c.advance.new.self c.in-Ok.moment
-    c.in-Ok.ensures.moment c.snapshot.result.now c.snapshot.ensures.finished))
+    (c.in_ok-said-in-Ok.ensures.said (checkpoints_of text)
+    (knows_at g.R.Read.remaining c.args.run.now.options.now text c.checkpoints.recording _ _ c.checkpoints.last way c.advance.new.self c.in-Ok.checkpoint
+    c.in-Ok.ensures.checkpoint c.snapshot.result.now c.snapshot.ensures.finished))
 
 pub returns-in-Err : goal.returns-in-Err
 returns-in-Err g c text recording within fresh =
-    ends-fault g.R.Read.remaining (course c.args.run.now.options.now (moments_of text)) text
-    c.moments.recording c.advance.new.self _ _ c.moments.last (c.moments.invariant.way text recording)
-    c.in-Err.fault _ c.stop.result c.in-Err.ensures.moment (c.moments.invariant.within (records_of text) within)
-    (c.in-Err.ensures.failed (c.moments.invariant.going fresh)) c.stop.ensures.printed
+    ends-fault g.R.Read.remaining (course c.args.run.now.options.now (checkpoints_of text)) text
+    c.checkpoints.recording c.advance.new.self _ _ c.checkpoints.last (c.checkpoints.invariant.way text recording)
+    c.in-Err.fault _ c.stop.result c.in-Err.ensures.checkpoint (c.checkpoints.invariant.within (records_of text) within)
+    (c.in-Err.ensures.failed (c.checkpoints.invariant.going fresh)) c.stop.ensures.printed
 
 pub returns : goal.returns
 returns g c text recording within fresh =
-    wants_memory g.R.Read.remaining (course c.args.run.now.options.now (moments_of text)) text
-    c.moments.recording c.moments.recording _ _ c.moments.last (c.moments.invariant.way text recording) _
+    wants_memory g.R.Read.remaining (course c.args.run.now.options.now (checkpoints_of text)) text
+    c.checkpoints.recording c.checkpoints.recording _ _ c.checkpoints.last (c.checkpoints.invariant.way text recording) _
     c.print_endless.result c.print_endless.ensures
 
-pub say-requires-clause-nested : goal.say-requires-clause-nested
-say-requires-clause-nested g c κs within =
-    nested_on c.moments.follower.watch c.moments.recording.snapshot c.snapshot.result.now c.moments.invariant.nested
-    (subst (IsNested c.moments.recording.snapshot) (sym c.snapshot.ensures.value) c.in-Ok.ensures.continues)
+pub answer_checkpoint-requires-clause-nested : goal.answer_checkpoint-requires-clause-nested
+answer_checkpoint-requires-clause-nested g c κs within =
+    nested_on c.checkpoints.follower.watch c.checkpoints.recording.snapshot c.snapshot.result.now c.checkpoints.invariant.nested
+    (subst (IsNested c.checkpoints.recording.snapshot) (sym c.snapshot.ensures.value) c.in-Ok.ensures.continues)

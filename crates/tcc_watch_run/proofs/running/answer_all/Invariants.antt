@@ -8,15 +8,15 @@ use Rattle.tcc_txn.specs.Nested.{IsNested}
 use Rattle.tcc_txn.specs.declared.limits.Limits.TheVariants.{Large}
 use Rattle.tcc_run.specs.LargeRuns.{answers_of}
 use Rattle.tcc_print.proofs.Courses.{HasAnswered}
-use Rattle.tcc_watch_run.specs.Watching.{moments_of}
+use Rattle.tcc_watch_run.specs.Watching.{checkpoints_of}
 use Rattle.tcc_watch_run.specs.private.Following.{IsFollowing}
 use Rattle.tcc_watch_run.specs.private.Stages.{course}
 use Rattle.tcc_watch_run.proofs.running.answer_all.Given as goal
 
-abbrev pub invariant-moments : goal.invariant-moments
-invariant-moments g l = record {
+abbrev pub invariant-checkpoints : goal.invariant-checkpoints
+invariant-checkpoints g l = record {
   way : (text : List ℕ) → IsRecording Large g.R.Read.remaining l.initial.recording [] (answers_of text)
-      → HasAnswered g.R.Read.remaining (course l.run.options.now (moments_of text)) text l.recording (g.W.Write.contents l.initial.out) (g.W.Write.contents l.out)
+      → HasAnswered g.R.Read.remaining (course l.run.options.now (checkpoints_of text)) text l.recording (g.W.Write.contents l.initial.out) (g.W.Write.contents l.out)
       l.last;
   within : (records : List Record) → IsWithin g.R.Read.remaining l.initial.recording.rows records → IsWithin g.R.Read.remaining l.recording.rows records;
   going : fault_met l.initial.recording.rows ≡ None → fault_met l.recording.rows ≡ None;

@@ -1,4 +1,4 @@
--- The end goes out behind what was given.
+-- The end is written after what was given.
 use Rattle.tcc_base.proofs.Failing.{on_err}
 use Rattle.tcc_cert.proofs.GivenFacts.{end_whole, end_part}
 use Rattle.tcc_cert.proofs.cycle_writer.CycleWriter.end.Goals as goal

@@ -1,4 +1,4 @@
--- The row's line goes out behind what was given, and behind the mark if it is the first of `far`.
+-- The row's line is written after what was given, and after the mark if it is the first of `far`.
 use Rattle.std.proofs.Common.{Err, ◌∙◌}
 use Rattle.std.proofs.lemmas.Result.{on_ok_weaker}
 use Rattle.tcc_cert.proofs.SentFacts.{IsSent-then, Stops-early}

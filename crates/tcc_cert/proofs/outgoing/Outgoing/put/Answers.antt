@@ -1,4 +1,4 @@
--- The piece goes out behind what was held.
+-- The piece is written after what was held.
 use Rattle.tcc_cert.proofs.SentFacts.{failed, Stops-early, IsSent-bare, IsSent-then}
 use Rattle.tcc_cert.proofs.outgoing.Outgoing.put.Goals as goal
 

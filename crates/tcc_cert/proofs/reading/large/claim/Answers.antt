@@ -2,7 +2,7 @@
 use Rattle.std.proofs.Common.{◌∙◌, arith, refl}
 use Rattle.std.proofs.lemmas.Result.{err_from_is_err_and}
 use Rattle.tcc_cert.specs.declared.large.LargeCertificate.TheVariants as claim
-use Rattle.tcc_cert.specs.declared.ranges.Scale.TheVariants.{Large}
+use Rattle.tcc_cert.specs.declared.ranges.TextFormat.TheVariants.{Large}
 use Rattle.tcc_cert.specs.Reading.{words}
 use Rattle.tcc_cert.specs.LargeReading.{large_sizes_line, runs_at}
 use Rattle.tcc_cert.proofs.LargeOnward.{onward-claim}

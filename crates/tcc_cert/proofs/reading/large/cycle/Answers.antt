@@ -1,8 +1,8 @@
--- The links were taken, then the line behind them was read, and what that says.
+-- The links were taken, then the line after them was read, and what that says.
 use Rattle.std.proofs.Common.{◌∙◌, arith, refl}
 use Rattle.std.proofs.lemmas.Result.{err_from_is_err_and}
 use Rattle.tcc_cert.specs.declared.large.LargeCertificate.TheVariants as claim
-use Rattle.tcc_cert.specs.declared.ranges.Scale.TheVariants.{Large}
+use Rattle.tcc_cert.specs.declared.ranges.TextFormat.TheVariants.{Large}
 use Rattle.tcc_cert.specs.Reading.{link_at, repeated, words}
 use Rattle.tcc_cert.specs.LargeReading.{least_at, tail_line}
 use Rattle.tcc_cert.proofs.LargeOnward.{behind-links, behind-tail, links_claim, onward-links}

@@ -1,7 +1,7 @@
 -- The runs were read, and then the last line.
 use Rattle.std.proofs.Common.{◌∙◌, arith, codes}
 use Rattle.std.proofs.lemmas.Result.{err_from_is_err_and}
-use Rattle.tcc_cert.specs.declared.ranges.Scale.TheVariants.{Large}
+use Rattle.tcc_cert.specs.declared.ranges.TextFormat.TheVariants.{Large}
 use Rattle.tcc_cert.specs.Reading.{repeated, word_line, words}
 use Rattle.tcc_cert.specs.LargeReading.{run_line}
 use Rattle.tcc_cert.proofs.LargeOnward.{behind-runs, onward-lines}

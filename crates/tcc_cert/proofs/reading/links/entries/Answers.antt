@@ -2,13 +2,13 @@
 use Rattle.std.proofs.Common.{arith, ℕ, inr, refl, ◌∙◌}
 use Rattle.std.proofs.lemmas.Result.{err_from_is_err_and}
 use Rattle.tcc_cert.specs.declared.fault.CertFaultKind.TheVariants.{NoMemory}
-use Rattle.tcc_cert.specs.declared.ranges.Scale.{Scale}
+use Rattle.tcc_cert.specs.declared.ranges.TextFormat.{TextFormat}
 use Rattle.tcc_cert.specs.Reading.{Position, Reads}
 use Rattle.tcc_cert.proofs.StepFacts.{part-none, part-more, part-all, part-faults, part-refused}
 use Rattle.tcc_cert.proofs.reading.links.entries.Goals as goal
 
 -- an entry, whichever it is
-abbrev each_at : {X : Type 0} → (Scale → Position → Reads X) → Scale → ℕ → Position → Reads X
+abbrev each_at : {X : Type 0} → (TextFormat → Position → Reads X) → TextFormat → ℕ → Position → Reads X
 each_at entry scale i = entry scale
 
 pub entries-init : goal.entries-init

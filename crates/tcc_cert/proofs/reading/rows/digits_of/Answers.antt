@@ -1,4 +1,4 @@
--- One more digit behind a space.
+-- One more digit after a space.
 use Rattle.std.proofs.Common.{ℕ, ◌≡◌, ◌≤◌, ◌*◌, ◌<◌, ◌∙◌, [], ◌∷◌, ◌++◌, length, length-append, ap, arith}
 use Rattle.std.proofs.lemmas.List.Elements.{All-push}
 use Rattle.tcc_cert.proofs.DigitLines.{digit-first, digit-more}

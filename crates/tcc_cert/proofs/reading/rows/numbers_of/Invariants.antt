@@ -1,4 +1,4 @@
--- the numbers so far stand before those of the words that are left
+-- the numbers so far come before those of the words that are left
 use Rattle.std.proofs.Common.{◌≡◌, length, drop}
 use Rattle.tcc_cert.specs.Reading.{numbers_of, parted}
 use Rattle.tcc_cert.proofs.WordFacts.{with_front}

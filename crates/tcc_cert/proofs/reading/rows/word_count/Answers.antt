@@ -1,4 +1,4 @@
--- One word more than there are spaces.
+-- One more word than there are spaces.
 use Rattle.std.proofs.Common.{◌+◌, ◌<◌, eqb, length, sym, ap, ◌∙◌, arith, rules, tests}
 use Rattle.std.proofs.lemmas.Bool.Decides.{nat_tests}
 use Rattle.std.proofs.lemmas.Iterator.{YieldsList-from_slice}

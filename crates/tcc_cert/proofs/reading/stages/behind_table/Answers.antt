@@ -1,4 +1,4 @@
--- Behind the rows of `near` the mark was read, and then the first row of `far`.
+-- After the rows of `near` the mark was read, and then the first row of `far`.
 use Rattle.std.proofs.Common.{◌≡◌, arith, codes}
 use Rattle.std.proofs.lemmas.Result.{err_from_is_err_and}
 use Rattle.tcc_cert.specs.declared.reading.shape.TableShape.TheVariants as shape

@@ -1,7 +1,7 @@
--- The line was read, and something stands behind it, or nothing.
+-- The line was read, and something comes after it, or nothing.
 use Rattle.std.proofs.lemmas.Result.{err_from_is_err_and}
 use Rattle.std.proofs.Common.{None, codes, refl}
-use Rattle.tcc_cert.specs.declared.ranges.Scale.TheVariants.{Small}
+use Rattle.tcc_cert.specs.declared.ranges.TextFormat.TheVariants.{Small}
 use Rattle.tcc_cert.specs.Parts.{ending}
 use Rattle.tcc_cert.specs.Reading.{word_line}
 use Rattle.tcc_cert.proofs.OnwardFacts.{onward-words}

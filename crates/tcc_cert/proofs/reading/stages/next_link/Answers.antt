@@ -1,4 +1,4 @@
--- One link more.
+-- One more link.
 use Rattle.std.proofs.Common.{◌≡◌, suc, ◌+◌, ◌-◌, refl, arith}
 use Rattle.std.proofs.lemmas.Result.{err_from_is_err_and}
 use Rattle.tcc_cert.specs.Parts.{link_rows}

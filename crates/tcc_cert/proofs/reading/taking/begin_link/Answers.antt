@@ -1,7 +1,7 @@
 -- The line was read, and the link is begun.
 use Rattle.std.proofs.Common.{refl}
 use Rattle.std.proofs.lemmas.Result.{err_from_is_err_and}
-use Rattle.tcc_cert.specs.declared.ranges.Scale.TheVariants.{Large}
+use Rattle.tcc_cert.specs.declared.ranges.TextFormat.TheVariants.{Large}
 use Rattle.tcc_cert.specs.Reading.{head_line, words}
 use Rattle.tcc_cert.proofs.OnwardFacts.{onward-words}
 use Rattle.tcc_cert.proofs.TakingFacts.{refused-behind}

@@ -2,7 +2,7 @@
 use Rattle.std.proofs.Common.{◌≡◌, List, Ok, ◌∙◌, arith}
 use Rattle.std.proofs.lemmas.Result.{err_from_is_err_and}
 use Rattle.tcc_graph.specs.declared.step.Step.{Step}
-use Rattle.tcc_cert.specs.declared.ranges.Scale.TheVariants.{Large}
+use Rattle.tcc_cert.specs.declared.ranges.TextFormat.TheVariants.{Large}
 use Rattle.tcc_cert.specs.Reading.{Position, head_line, link_at, repeated, step_line, walk_of, with_walk, words}
 use Rattle.tcc_cert.proofs.LinesBack.{then_ok}
 use Rattle.tcc_cert.proofs.OnwardFacts.{onward-link, onward-ok, onward-walk, onward-words}

@@ -1,4 +1,4 @@
--- The first line says which version it is, and is not taken.
+-- The first line says which version it is, and is not consumed.
 use Rattle.std.proofs.Common.{true, false, refl, sym, ◌∙◌}
 use Rattle.std.proofs.lemmas.Option.{IfSome_then}
 use Rattle.tcc_cert.specs.Reading.{start_of}

@@ -1,4 +1,4 @@
--- Nobody stands behind the last place.
+-- No transaction comes after the last place.
 use Rattle.std.proofs.Common.{◌*◌, length, refl, arith}
 use Rattle.tcc_judge.specs.private.NextWriters.{AreNextWriters}
 use Rattle.tcc_judge.proofs.BlockLemmas.{still_ready}

@@ -1,4 +1,4 @@
--- The next writers are those behind the place, and all else is kept.
+-- The next writers are those after the place, and all else is unchanged.
 use Rattle.std.proofs.Common.{◌≡◌, ◌<◌, ◌+◌, ◌∙◌, ℕ, get_or, refl, sym}
 use Rattle.tcc_reads.specs.History.{count, owner}
 use Rattle.tcc_clocks.specs.Clocks.{IsOutside}

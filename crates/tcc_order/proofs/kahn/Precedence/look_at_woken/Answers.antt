@@ -9,7 +9,7 @@ use Rattle.tcc_order.proofs.QueuedLemmas.{queued_popped, queued_parked, queued_r
 use Rattle.tcc_order.proofs.kahn.Precedence.look_at_woken.Goals.{In-Some}
 use Rattle.tcc_order.proofs.kahn.Precedence.look_at_woken.Goals as goal
 
--- the queue, and the number that is looked at now
+-- the queue, and the number that is examined now
 queued : (c : In-Some) → AreQueued (holds c.args.self.now.graph.now c.args.self.now.kept.now) c.args.self.now.parents.now c.args.placed.now IsAny
     ((c.pop.new.self.items ++ c.in-Some.number ∷ []) ++ c.loop-number.queue.ready) c.loop-number.queue.waiting
 queued c = rw c.in-Some.ensures.items at c.loop-number.invariant.1

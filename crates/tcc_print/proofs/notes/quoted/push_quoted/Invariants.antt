@@ -1,4 +1,4 @@
--- the bytes so far, behind a quote
+-- the bytes so far, after a quote
 use Rattle.std.proofs.Common.{◌≡◌, ◌++◌, take, flat_map}
 use Rattle.tcc_print.specs.RowNotes.{byte_shown}
 use Rattle.tcc_print.proofs.notes.quoted.push_quoted.Given as goal

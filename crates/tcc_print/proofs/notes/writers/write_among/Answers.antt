@@ -16,7 +16,7 @@ finished s i part is = ap (λ (o : Option (List ℕ × List Transaction)). optio
 abbrev stand_of : ℕ → List ℕ × List Transaction → ℕ → Transaction → Stand
 stand_of session part place txn = record { session = session; name = part.0; place = 1 + place; txn = txn }
 
--- a transaction of the session, where it stands
+-- a transaction of the session, at its index
 there : (s : Sessions) (i : ℕ) (part : List ℕ × List Transaction) (place : ℕ) (txn : Transaction) → slice_get (entries s) i ≡ Some part
     → slice_get (finished_at s i) place ≡ Some txn → slice_get (stands_in i part.0 1 part.1) place ≡ Some (stand_of i part place txn)
 there s i part place txn is here =

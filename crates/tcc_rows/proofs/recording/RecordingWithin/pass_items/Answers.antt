@@ -1,11 +1,12 @@
-use Rattle.std.proofs.Common.{Ok, refl, sym, ap, subst, ◌∙◌, arith}
+use Rattle.std.proofs.Common.{Ok, inr, refl, sym, ap, subst, ◌∙◌, arith}
 use Rattle.tcc_rows.specs.Ahead.{TakesAnswer, fault_met, stage_after}
 use Rattle.tcc_txn.specs.Nested.{IsNested}
 use Rattle.tcc_rows.specs.Reached.{IsWithin}
 use Rattle.tcc_rows.specs.private.Waiting.{PassesItems}
 use Rattle.tcc_rows.specs.declared.rows.Item.TheVariants as item
 use Rattle.tcc_txn.proofs.Nesting.{nested_itself, nested_on, nested_transaction}
-use Rattle.tcc_rows.proofs.RecordingSteps.{at-moment, comes_to_end, comes_to_seal, err-of, fails-behind, gives_up, goes_on, has-room, if-err-of}
+use Rattle.tcc_rows.proofs.RecordSteps.{failure-of-none}
+use Rattle.tcc_rows.proofs.RecordingSteps.{at-checkpoint, comes_to_end, comes_to_seal, err-of, fails-behind, gives_up, goes_on, has-room, if-err-of}
 use Rattle.tcc_rows.proofs.RecordingSteps.{loses_one, met-itself, met-stopped, never-stopped, not-begun, not-end, not-end-unknown, not-ok}
 use Rattle.tcc_rows.proofs.RecordingSteps.{stops, waits, within-stopped}
 use Rattle.tcc_rows.proofs.recording.RecordingWithin.pass_items.Goals.{in-Finished+in_ok-take-in-Finished, in-Unknown+in_ok-wait-in-Unknown}
@@ -36,11 +37,28 @@ returns-in_err-session-clause-failed g c =
     if-err-of g.B.Bounds.limits _ c.from_residual.result c.in_err-session.field-0.0 c.from_residual.ensures.1
     (λ fresh read all taken ahead answers within recording.
     let way = c.items.invariant.way taken ahead recording in
-    let moment = at-moment c.args.self.now.rows.stage recording.moment fresh
+    let checkpoint = at-checkpoint c.args.self.now.rows.stage recording.checkpoint fresh
     (λ ended. not-ok c.in_err-session.field-0.0 (c.in_err-session.ensures.stays_ended (c.items.invariant.ended ended))) in
-    fails-behind g.B.Bounds.limits g.R.Read.remaining taken ahead c.items.self c.items.self way c.in_err-session.field-0.0.row all moment answers
+    fails-behind g.B.Bounds.limits g.R.Read.remaining taken ahead c.items.self c.items.self way c.in_err-session.field-0.0.row all checkpoint answers
     (λ faults. c.in_err-session.ensures.failed_sealed (c.items.invariant.going fresh) read g.B.Bounds.limits all way.3.given faults
     (c.items.invariant.within all within) way.3.answers))
+
+pub returns-in_err-session-clause-faulty : goal.returns-in_err-session-clause-faulty
+returns-in_err-session-clause-faulty g c =
+    if-err-of g.B.Bounds.limits _ c.from_residual.result c.in_err-session.field-0.0 c.from_residual.ensures.1
+    (λ fresh is all taken ahead within recording. c.in_err-session.ensures.faulty (c.items.invariant.going fresh) is all (c.items.invariant.within all within))
+
+pub returns-in_err-take-in-Finished-clause-faulty : goal.returns-in_err-take-in-Finished-clause-faulty
+returns-in_err-take-in-Finished-clause-faulty g c =
+    let fault = c.in_err-take-in-Finished.field-0.0 in
+    if-err-of g.B.Bounds.limits _ c.from_residual-in_err-take-in-Finished.result fault c.from_residual-in_err-take-in-Finished.ensures.1
+    (λ fresh is all taken ahead within recording.
+    let way = c.items.invariant.way taken ahead recording in
+    let answer =
+    subst (λ given. TakesAnswer g.B.Bounds.limits g.R.Read.remaining way.3.given (Ok given) c.next.new.self) c.in-Finished.is
+    (c.in_ok-session.ensures.answers g.B.Bounds.limits way.3.given way.3.answers) in
+    let room = has-room g.B.Bounds.limits g.R.Read.remaining taken ahead c.items.self c.items.self way c.in-Finished.session c.in-Finished.txn c.next.new.self answer in
+    absurd (failure-of-none fault.kind (inr (c.in_err-take-in-Finished.ensures.memory room)) is))
 
 pub returns-in_err-take-in-Finished-clause-passed : goal.returns-in_err-take-in-Finished-clause-passed
 returns-in_err-take-in-Finished-clause-passed g c taken ahead recording =

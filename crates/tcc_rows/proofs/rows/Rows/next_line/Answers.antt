@@ -1,9 +1,9 @@
 use Rattle.std.proofs.Common.{refl, sym, ap, arith, inl, ◌∙◌}
 use Rattle.tcc_rows.specs.Answers.{answers_after_within}
 use Rattle.tcc_rows.specs.RecordsLeft.{record_of}
-use Rattle.tcc_rows.specs.private.Turns.{line_by}
+use Rattle.tcc_rows.specs.private.ControlRecords.{line_by}
 use Rattle.tcc_rows.proofs.AheadFacts.{failed-reading, judged-refused, judged-unlawful, line-met, operation-passed, reading-failed, record-refused, row-ended}
-use Rattle.tcc_rows.proofs.RecordSteps.{stands-within}
+use Rattle.tcc_rows.proofs.RecordSteps.{stops-at, stops-unread}
 use Rattle.tcc_rows.proofs.rows.Rows.next_line.Goals as goal
 
 pub returns-in-Ok-false-clause-line : goal.returns-in-Ok-false-clause-line
@@ -21,6 +21,10 @@ pub returns-in-Err-clause-line : goal.returns-in-Err-clause-line
 returns-in-Err-clause-line g c limits ahead reading =
     let now = c.records.invariant.reading limits ahead reading in
     reading-failed limits g.R.Read.remaining c.records.self c.read.new.self ahead now c.in-Err.kind c.in-Err.ensures.counts c.in-Err.ensures.failure
+
+pub returns-in-Err-clause-within : goal.returns-in-Err-clause-within
+returns-in-Err-clause-within g c all stands =
+    stops-unread c.read.new.self all c.in-Err.kind c.in-Err.ensures.failure (c.in-Err.ensures.stands all (c.records.invariant.stands all stands))
 
 pub returns-in-Err-clause-failed : goal.returns-in-Err-clause-failed
 returns-in-Err-clause-failed g c read limits all ahead stands reading =
@@ -49,7 +53,8 @@ returns-in-Err-read_line-clause-line g c limits ahead reading =
 pub returns-in-Err-read_line-clause-within : goal.returns-in-Err-read_line-clause-within
 returns-in-Err-read_line-clause-within g c all stands =
     let now = rw c.in-Ok-true.field-0-test at (c.in-Ok-true.ensures.stands all (c.records.invariant.stands all stands)) in
-    stands-within g.R.Read.remaining c.read.new.self all now
+    let counts = rw c.in-Ok-true.field-0-test at c.in-Ok-true.ensures.counts in
+    stops-at g.R.Read.remaining c.read.new.self all c.in-Err-read_line.kind now (omega (arith, counts.0))
 
 pub returns-in-Err-pass_operation-clause-line : goal.returns-in-Err-pass_operation-clause-line
 returns-in-Err-pass_operation-clause-line g c limits ahead reading =
@@ -64,7 +69,8 @@ returns-in-Err-pass_operation-clause-line g c limits ahead reading =
 pub returns-in-Err-pass_operation-clause-within : goal.returns-in-Err-pass_operation-clause-within
 returns-in-Err-pass_operation-clause-within g c all stands =
     let now = rw c.in-Ok-true.field-0-test at (c.in-Ok-true.ensures.stands all (c.records.invariant.stands all stands)) in
-    stands-within g.R.Read.remaining c.read.new.self all now
+    let counts = rw c.in-Ok-true.field-0-test at c.in-Ok-true.ensures.counts in
+    stops-at g.R.Read.remaining c.read.new.self all c.in-Err-pass_operation.kind now (omega (arith, counts.0))
 
 pub records-preserved : goal.records-preserved
 records-preserved g c =

@@ -1,4 +1,4 @@
-use Rattle.tcc_rows.specs.private.Turns.{line_by}
+use Rattle.tcc_rows.specs.private.ControlRecords.{line_by}
 use Rattle.tcc_rows.proofs.AheadFacts.{judged-lawful}
 use Rattle.tcc_rows.proofs.rows.Rows.take_line.Goals as goal
 

@@ -1,4 +1,4 @@
-use Rattle.tcc_rows.proofs.StandingFacts.{ended-more}
+use Rattle.tcc_rows.proofs.SessionStateFacts.{ended-more}
 use Rattle.tcc_rows.proofs.rows.progress.note_ended.Goals as goal
 
 pub returns-in-Ok-clause-noted : goal.returns-in-Ok-clause-noted

@@ -1,5 +1,5 @@
 use Rattle.tcc_txn.proofs.NumberedNames.{among}
-use Rattle.tcc_rows.proofs.StandingFacts.{names-kept}
+use Rattle.tcc_rows.proofs.SessionStateFacts.{names-kept}
 use Rattle.tcc_rows.proofs.rows.progress.note_key.Goals as goal
 
 pub returns-in-Some-clause-noted : goal.returns-in-Some-clause-noted

@@ -2,7 +2,7 @@ use Rattle.std.proofs.Common.{inl, inr}
 use Rattle.std.proofs.lemmas.Result.{IfOk-weaker}
 use Rattle.tcc_run.proofs.large.claims.long_claim.Goals as goal
 
--- the judge takes the runs
+-- the judge accepts the runs
 pub returns-in-Some-2 : goal.returns-in-Some-2
 returns-in-Some-2 c = inr (rw c.in-Some-2.is at c.in_ok-claim.ensures)
 

@@ -1,4 +1,4 @@
--- There always is room for an order: a history keeps the large limits.
+-- There is always room for an order: a history keeps the large limits.
 use Rattle.std.proofs.Common.{ap, length, arith}
 use Rattle.tcc_run.proofs.ClaimTexts.{order_room}
 use Rattle.tcc_run.proofs.large.room.has_order_room.Goals as goal

@@ -12,8 +12,8 @@ use Rattle.tcc_print.proofs.Courses.{HasAnswered}
 use Rattle.tcc_run.specs.private.LargeStages.{IsCertifiable, course}
 use Rattle.tcc_run.proofs.large.running.answer_all.Given as goal
 
-abbrev pub invariant-moments : goal.invariant-moments
-invariant-moments g l = record {
+abbrev pub invariant-checkpoints : goal.invariant-checkpoints
+invariant-checkpoints g l = record {
   way : (text : List ℕ) → IsRecording Large g.R.Read.remaining l.initial.recording [] (answers_of text)
       → HasAnswered g.R.Read.remaining (course l.run.options.now) text l.recording (g.W.Write.contents l.initial.out) (g.W.Write.contents l.out) l.last;
   within : (records : List Record) → IsWithin g.R.Read.remaining l.initial.recording.rows records → IsWithin g.R.Read.remaining l.recording.rows records;

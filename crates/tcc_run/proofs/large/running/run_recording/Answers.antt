@@ -1,4 +1,4 @@
--- All was answered, and the files of what was said last come behind; or the run ended before.
+-- All was answered, and the files of what was said last come after; or the run ended before.
 use Rattle.std.proofs.Common.{◌∙◌}
 use Rattle.tcc_run.proofs.LargeRuns.{concluded, early}
 use Rattle.tcc_run.proofs.large.running.run_recording.Goals as goal

@@ -1,4 +1,4 @@
--- The links have no slice, and nothing goes into the file.
+-- The links have no slice, and nothing is written to the file.
 use Rattle.std.proofs.Common.{inr, refl}
 use Rattle.std.proofs.KnownBytes.{Appends-nil}
 use Rattle.tcc_run.proofs.large.running.send_slice.Goals as goal

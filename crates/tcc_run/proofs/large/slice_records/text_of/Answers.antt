@@ -11,7 +11,7 @@ use Rattle.tcc_slices.specs.Slices.{IsSliceOf}
 use Rattle.tcc_run.specs.LargeRuns.{Finishes}
 use Rattle.tcc_run.proofs.large.slice_records.text_of.Goals as goal
 
--- the slice is what was cut, of the snapshot's own history
+-- the slice is what was cut from the snapshot's own history
 pub returns-then-is_whole : goal.returns-then-is_whole
 returns-then-is_whole c = λ own none cycle.
     let whole = c.args.snapshot.now in

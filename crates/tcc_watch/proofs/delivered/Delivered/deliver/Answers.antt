@@ -72,10 +72,12 @@ note_writes-requires g c =
     let n : c.in-Ok.number ≡ length c.args.self.now.tables.stands.items = search rules in
     let number : c.in-Ok.number ≡ count h = n ∙ laid.placed.long in
     record {
+      delivered = c.in_ok-arrive.ensures.laid.delivered;
       right = subst (λ (z : ℕ). AreKeyWriters (after g.arriving) z c.args.self.now.writers) (sym number) (still_writers h e c.args.self.now.writers r.state.writers);
       some = omega (arith, number, laid.delivered.some);
       below = omega (arith, number, count_more h e);
       owned = ap (λ (z : Entry). z.owner) (new_entry h e c.in-Ok.number number) ∙ sym r.coming.session;
+      placed = ap (λ (z : Entry). z.place) (new_entry h e c.in-Ok.number number) ∙ sym r.coming.place;
       written = λ x there. subst (λ (z : ℕ). IsWriter (after g.arriving) z x) (sym number)
           (last_writes h e x laid.delivered.some (contains_name e.writes x (subst (λ (z : List (List ℕ)). Contains z x) r.coming.writes_are there)));
       all = λ x writes. subst (λ (z : List (List ℕ)). Contains z x) (sym r.coming.writes_are)

@@ -11,4 +11,4 @@ returns c sessions =
     = c.in_ok-push-2.ensures.items ∙ (λ i. c.new-clocks.ensures.items i ++ c.new.ensures i ∷ []) in
     let closure : c.push-3.new.self.items ≡ [] ∷ []
     = c.in_ok-push-3.ensures.items ∙ (λ i. c.new-closure.ensures.items i ++ c.new-2.ensures i ∷ []) in
-    first_state sessions _ stands c.new-3.ensures.items clocks closure (λ x. rw c.new-4.ensures.empty refl)
+    first_state sessions _ stands c.new-3.ensures.items clocks closure c.new-4.ensures

@@ -1,4 +1,4 @@
--- no line feed stands among the bytes that were searched, and each turn that goes on adds some
+-- no line feed is among the bytes that were searched, and each turn that goes on adds some
 use Rattle.std.proofs.Common.{◌≡◌, ◌≤◌, ◌-◌, length, take}
 use Rattle.tcc_cert.specs.declared.reading.window.TheConstants.{WINDOW_BYTES}
 use Rattle.tcc_cert.specs.WindowBytes.{window_bytes}

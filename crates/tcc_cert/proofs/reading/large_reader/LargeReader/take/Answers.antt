@@ -1,4 +1,4 @@
--- The certificate was read, and nothing stands behind it.
+-- The certificate was read, and nothing comes after it.
 use Rattle.std.proofs.Common.{arith}
 use Rattle.std.proofs.lemmas.Result.{err_from_is_err_and}
 use Rattle.tcc_cert.specs.declared.version_3.TheConstants.{V3_MAX_TEXT_BYTES}

@@ -1,4 +1,4 @@
--- What a read gave stands behind what was held.
+-- What a read gave comes after what was held.
 use Rattle.std.proofs.Common.{◌≤◌, ◌++◌, length, take, sym, ap, ◌∙◌, arith}
 use Rattle.tcc_cert.proofs.WindowFacts.{grown}
 use Rattle.tcc_cert.proofs.reading.window.Window.fill.Goals as goal

@@ -1,4 +1,4 @@
--- What is let go was at the front.
+-- What is dropped was at the front.
 use Rattle.std.proofs.Common.{ℕ, arith}
 use Rattle.std.proofs.lemmas.List.{length-take, length-drop}
 use Rattle.tcc_cert.proofs.WindowFacts.{passed}

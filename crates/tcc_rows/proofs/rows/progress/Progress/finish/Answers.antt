@@ -1,6 +1,6 @@
 use Rattle.std.proofs.Common.{sym, refl, ◌∙◌, ap, Some}
 use Rattle.tcc_rows.proofs.SeatFacts.{seat-within}
-use Rattle.tcc_rows.proofs.StandingFacts.{after-finish}
+use Rattle.tcc_rows.proofs.SessionStateFacts.{after-finish}
 use Rattle.tcc_rows.proofs.rows.progress.Progress.finish.Goals as goal
 
 pub end-requires : goal.end-requires

@@ -1,6 +1,6 @@
 use Rattle.std.proofs.Common.{sym, refl, ◌∙◌, ap, Some}
 use Rattle.tcc_rows.proofs.SeatFacts.{seat-within}
-use Rattle.tcc_rows.proofs.StandingFacts.{after-leave}
+use Rattle.tcc_rows.proofs.SessionStateFacts.{after-leave}
 use Rattle.tcc_rows.proofs.rows.progress.Progress.leave.Goals as goal
 
 pub has_begun-requires : goal.has_begun-requires

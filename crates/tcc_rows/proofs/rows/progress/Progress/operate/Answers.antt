@@ -2,7 +2,7 @@ use Rattle.std.proofs.Common.{Err, sym, ◌∙◌}
 use Rattle.tcc_rows.specs.Past.{keys}
 use Rattle.tcc_txn.specs.Transactions.{op_key}
 use Rattle.tcc_rows.proofs.SeatFacts.{seat-within}
-use Rattle.tcc_rows.proofs.StandingFacts.{after-operation, noted-on, operation-refused, seated-added}
+use Rattle.tcc_rows.proofs.SessionStateFacts.{after-operation, noted-on, operation-refused, seated-added}
 use Rattle.tcc_rows.proofs.rows.progress.Progress.operate.Goals as goal
 
 pub operate-requires-clause-within : goal.operate-requires-clause-within

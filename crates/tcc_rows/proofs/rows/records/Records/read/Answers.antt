@@ -7,7 +7,7 @@ use Rattle.tcc_rows.proofs.rows.records.Records.read.Given.{Over}
 use Rattle.tcc_rows.proofs.rows.records.Records.read.Goals.{After-read_byte_record}
 use Rattle.tcc_rows.proofs.rows.records.Records.read.Goals as goal
 
--- what a read takes of the records that are left, where it didn't fail
+-- what a read takes of the records that are left, if it didn't fail
 taken : (g : Over) (c : After-read_byte_record g) (count : ℕ) (found : Bool) → c.read_byte_record.result ≡ Ok found
     → (left : List Record) → HasLeft g.R.Read.remaining c.args.self.now left → TakesRecord g.R.Read.remaining left found (record {
       reader = c.read_byte_record.new.self;

@@ -1,4 +1,4 @@
--- What was judged is what comes of the text.
+-- The judgement is the outcome of the text.
 use Rattle.std.proofs.Common.{inl}
 use Rattle.std.proofs.lemmas.Option.{IfSome_then}
 use Rattle.tcc_verdict.proofs.Judgements.{of_fault, of_judgement}

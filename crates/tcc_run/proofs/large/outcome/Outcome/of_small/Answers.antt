@@ -1,5 +1,0 @@
-use Rattle.std.proofs.Common.{refl}
-use Rattle.tcc_run.proofs.large.outcome.Outcome.of_small.Goals as goal
-
-pub returns : goal.returns
-returns c = λ is. (c.in_ok-answer.answer, refl, c.in_ok-answer.ensures is)

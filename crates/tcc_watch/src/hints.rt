@@ -1,0 +1,69 @@
+//! What the first transaction that waits in each session is known to wait for, so that it isn't looked at again before that has come. A
+//! hint saves time, and nothing else depends on it: values that were written stay, so an old hint says nothing.
+
+use crate::operations::visible_write;
+use crate::values::Values;
+use std::alloc::Global;
+use tcc_txn::{Name, NoMemory, Op};
+
+/// A value at a key for each session, where one is known to be waited for.
+#[derive(Drop)]
+pub(crate) struct Hints {
+    missing: Vec<Option<(Name, u64)>>,
+}
+
+/// The value that an operation after some others reads from another transaction, where nobody has written it.
+fn missing_at(values: &Values, before: &[Op], op: &Op) -> Option<(Name, u64)> {
+    let Op::Get { key, value } = op else {
+        return None;
+    };
+    if *value == 0 || values.contains_key(key, *value) {
+        return None;
+    }
+    match visible_write(before, key) {
+        Some(_) => None,
+        None => Some((*key, *value)),
+    }
+}
+
+/// The first value that some operations read from another transaction, and that nobody has written.
+pub(crate) fn missing(values: &Values, ops: &[Op]) -> Option<(Name, u64)> {
+    for index in 0..ops.len() {
+        if let Some(found) = missing_at(values, &ops[..index], &ops[index]) {
+            return Some(found);
+        }
+    }
+    None
+}
+
+impl Hints {
+    /// No sessions.
+    pub(crate) fn new(alloc: Global) -> Hints {
+        Hints {
+            missing: Vec::new(alloc),
+        }
+    }
+
+    /// Makes room for the session at an index, if it is the next one.
+    pub(crate) fn make_room(&mut self, index: usize) -> Result<(), NoMemory> {
+        if index == self.missing.len() {
+            self.missing.push(None)?;
+        }
+        Ok(())
+    }
+
+    /// Notes what the first transaction of a session waits for.
+    pub(crate) fn put(&mut self, index: usize, missing: Option<(Name, u64)>) {
+        if let Some(known) = self.missing.get_mut(index) {
+            *known = missing;
+        }
+    }
+
+    /// Whether the first transaction of a session is known to wait for a value that hasn't come.
+    pub(crate) fn still_waits(&self, values: &Values, index: usize) -> bool {
+        match self.missing.get(index) {
+            Some(Some(missing)) => !values.contains_key(&missing.0, missing.1),
+            _ => false,
+        }
+    }
+}
