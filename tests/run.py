@@ -1,6 +1,7 @@
 #!/usr/bin/env python3
-"""All tests: the merge gate, which proves everything from nothing, and then what asks something of what it built. First come the
-mutants, which the check must refuse, and the rows, by 32 workers, and those with an anomaly by two as well. Then come the seals of
+"""All tests: the merge gate, which proves everything from nothing, and then what asks something of what it built. The mutants, which
+the check must refuse, begin beside the gate, each crate's once it is proved: a gate leaves processors free where one crate waits for
+another. After it come the rows, by 32 workers, and those with an anomaly by two as well. Then come the seals of
 a history that grows, random ones watched, small histories decided as large ones, what a long run shows at a terminal, and random
 histories surveyed. So do the altered certificates, the refused allocations and the hostile records. Last come the scripts of recipes/
 on stored inputs, the package of python/ as pip installs it, and what the documents name.
@@ -11,10 +12,12 @@ line is `N passed, M failed`, the sum of all; the status is 0 only where all pas
 """
 import collections
 import concurrent.futures
+import contextlib
 import pathlib
 import re
 import subprocess
 import sys
+import tempfile
 import time
 
 from machine import processors
@@ -22,7 +25,8 @@ from spent import Watch, table, waited
 
 TOP = pathlib.Path(__file__).resolve().parent.parent
 GATE = ["rt", "ci"]
-ON_THE_PROGRAM = ("wrong/run.py --after-gate", "rows/run.py --workers 32", "certificates/run.py", "memory/run.py",
+MUTANTS = "wrong/run.py --beside-gate"
+ON_THE_PROGRAM = ("rows/run.py --workers 32", "certificates/run.py", "memory/run.py",
                   "rows/run.py --workers 2 --searched", "rows/run.py --checker", "recipes/run.py", "large/run.py", "survey/run.py",
                   "python/run.py", "docs/run.py", "seals/run.py", "watch/run.py", "rows/numbers.py", "rows/filled.py", "rows/options.py",
                   "rows/commands.py", "wrong/trial.py")
@@ -55,26 +59,55 @@ class Counts:
             self.wrong += ["== " + name_of(command), *(line[:WIDE] for line in lines)]
         self.passed, self.failed = self.passed + passed, self.failed + failed
 
-    def run(self, command):
-        """Runs a command, shows what it prints as it comes, and adds what it came to."""
+    def run(self, command, beside=None):
+        """Runs a command, shows what it prints as it comes, to one that runs beside it too, and adds what it came to."""
         lines, began = collections.deque(maxlen=AGAIN), time.time()
         with subprocess.Popen(command, cwd=TOP, stdout=subprocess.PIPE, text=True, errors="replace") as running:
             for line in running.stdout:
                 sys.stdout.write(line)
                 sys.stdout.flush()
+                if beside:
+                    beside.take(line)
                 if line.strip():
                     lines.append(line.strip())
             self.spent[name_of(command)] = waited(running, began)
         self.add(command, running.returncode, list(lines))
 
-    def run_side_by_side(self, commands, lanes):
-        """Runs commands, so many at a time, and shows and adds each when it ends."""
+    def run_side_by_side(self, commands, lanes, beside):
+        """Runs commands, so many at a time, with one that runs already, and shows and adds each when it ends."""
         with concurrent.futures.ThreadPoolExecutor(lanes) as pool:
-            running = {pool.submit(output_of, command): command for command in commands}
+            running = {pool.submit(beside.output): beside.command, **{pool.submit(output_of, command): command for command in commands}}
             for ended in concurrent.futures.as_completed(running):
                 status, text, self.spent[name_of(running[ended])] = ended.result()
                 print("== %s\n%s" % (name_of(running[ended]), text), end="", flush=True)
                 self.add(running[ended], status, text.strip().splitlines()[-AGAIN:])
+
+
+class Beside:
+    """A command that runs beside another one, and takes its lines."""
+
+    def __init__(self, command):
+        self.command, self.began = command, time.time()
+        self.log = tempfile.TemporaryFile("w+", errors="replace")
+        self.running = subprocess.Popen(command, cwd=TOP, stdin=subprocess.PIPE, stdout=self.log, text=True)
+
+    def take(self, line):
+        with contextlib.suppress(BrokenPipeError):
+            self.running.stdin.write(line)
+            self.running.stdin.flush()
+
+    def stop(self):
+        self.running.kill()
+        self.output()
+
+    def output(self):
+        """Lets it come to its end: its status, what it prints, and what time it took."""
+        with contextlib.suppress(BrokenPipeError):
+            self.running.stdin.close()
+        spent = waited(self.running, self.began)
+        with self.log:
+            self.log.seek(0)
+            return self.running.returncode, self.log.read(), spent
 
 
 def output_of(command):
@@ -100,12 +133,14 @@ def of_script(test):
 def main():
     counts = Counts()
     with Watch() as watch:
-        counts.run(GATE)
+        mutants = Beside(of_script(MUTANTS))
+        counts.run(GATE, mutants)
         if counts.failed:
+            mutants.stop()
             print("the rows were not run: the gate comes first")
         else:
             # (the mutants take each processor that the other scripts leave)
-            counts.run_side_by_side(map(of_script, ON_THE_PROGRAM), processors() + 1)
+            counts.run_side_by_side(map(of_script, ON_THE_PROGRAM), processors() + 1, mutants)
             for test in ALONE:
                 counts.run(of_script(test))
     whole = counts.spent.pop(name_of(GATE))

@@ -16,7 +16,8 @@ from crates import TOP, stands_on
 TICKS = os.sysconf("SC_CLK_TCK")
 EVERY = 0.2
 MARK = "TCC_MARK"
-KINDS = ("proofs", "tests", "mutants")
+# What the columns of the table count; edits are those mutants that `rt ci` tries.
+KINDS = {"proofs": ("proofs",), "tests": ("tests",), "mutants": ("edits", "mutants")}
 PHASES = (*KINDS, "programs", "scripts")
 
 
@@ -63,7 +64,7 @@ def kind_of(process: str) -> Optional[Tuple[str, str]]:
         here = os.path.basename(os.readlink("/proc/%s/cwd" % process))
     except OSError:
         here = ""
-    return crate, "mutants" if here.startswith(("rt-edit", "tcc-wrong")) else "proofs"
+    return crate, "edits" if here.startswith("rt-edit") else "mutants" if here.startswith("tcc-wrong") else "proofs"
 
 
 class Watch:
@@ -118,8 +119,9 @@ def phases(watch: Watch, whole: Spent, scripts: Dict[str, Spent]) -> Dict[str, S
     """What each phase took: of the gate or a build, which took so much as a whole, and of scripts."""
     of_gate = collections.defaultdict(list)
     for (_, phase), spent in watch.by_kind().items():
-        if spent.begin < whole.end:
-            of_gate[phase].append(spent)
+        # (what tries mutants beside the gate is a script)
+        if phase != "mutants" and spent.begin < whole.end:
+            of_gate["mutants" if phase == "edits" else phase].append(spent)
     seen = sum(spent.seconds for parts in of_gate.values() for spent in parts)
     # (what was seen too late, and what works on no crate, links, runs or starts what does)
     of_gate["programs"].append(Spent(max(whole.seconds - seen, 0.0), whole.end, whole.end))
@@ -145,7 +147,8 @@ def chain(seconds: Dict[str, float]) -> Tuple[float, List[str]]:
 def by_crate(watch: Watch) -> Iterator[str]:
     """The lines of the crates, and of the longest chain of their proofs."""
     found = watch.by_kind()
-    seconds = {(crate, kind): found[crate, kind].seconds if (crate, kind) in found else 0.0 for crate in stands_on() for kind in KINDS}
+    seconds = {(crate, kind): sum(found[crate, one].seconds for one in parts if (crate, one) in found)
+               for crate in stands_on() for kind, parts in KINDS.items()}
     yield "%-28s %8s %8s %8s %8s %8s" % ("processor minutes", *KINDS, "all", "tried")
     for crate in stands_on():
         parts = [seconds[crate, kind] / 60 for kind in KINDS]

@@ -1,7 +1,7 @@
 #!/usr/bin/env python3
 """Tries the mutants of the crates: the check has to refuse each.
 
-    run.py [--after-gate] [--lanes N] [--anew] [--kept FOLDER] [--top FOLDER] [CRATE ..]
+    run.py [--after-gate|--beside-gate] [--lanes N] [--anew] [--kept FOLDER] [--top FOLDER] [CRATE ..]
 
 A mutant is a body of a function with a planted mistake, in a file crates/CRATE/wrong/NAME.edit: a line `why:`, which names the clause that
 refuses it, a line `file:`, and pairs of lines `old:` and `new:`. Each old text is once in its file.
@@ -11,11 +11,13 @@ them in one copy, and checks these functions alone with what they call (`rattle 
 stated over the contracts of what it calls, never over bodies, so no other mutant changes them. A mutant counts as refused only
 where its own function fails by itself: an obligation isn't proved, or a file of its own proof doesn't fit. That the function
 calls one that isn't proved doesn't count. A round in which a function without a mutant fails by itself, or that doesn't compile,
-counts for nothing. Its mutants are tried alone, each with the whole crate. So is each that its round doesn't refuse, and each
-that isn't in the body of one function.
+counts for nothing. Its mutants are tried alone, each with the whole crate. So is each that isn't in the body of one function, and
+each that neither its round refuses nor one of those that are left: there no mutant of what a function calls is refused any more.
 
-Each crate has to be proved. With --after-gate `rt ci` has just passed on these sources: its libraries serve as they are. Else
-`rt lib` proves what changed. What was refused is kept on this machine, as `rt ci` keeps what it passed: by sums of all that the
+Each crate has to be proved. With --after-gate `rt ci` has just passed on these sources: its libraries serve as they are. With
+--beside-gate it runs, and what it prints comes on standard input: a crate's turn comes once it is proved, one crate at a time, on
+what the gate leaves of processors and memory, and those that are left come where the input ends. Else `rt lib` proves what
+changed. What was refused is kept on this machine, as `rt ci` keeps what it passed: by sums of all that the
 answer rests on, so that any checkout here finds it; --anew tries all again. The last line is `N passed, M failed`.
 """
 import argparse
@@ -26,6 +28,7 @@ import importlib.machinery
 import json
 import os
 import pathlib
+import re
 import resource
 import shutil
 import signal
@@ -35,7 +38,7 @@ import tempfile
 import threading
 import time
 import types
-from typing import Dict, Iterator, List, NamedTuple, Optional, Tuple
+from typing import Dict, Iterable, Iterator, List, NamedTuple, Optional, Set, Tuple
 
 TOP = pathlib.Path(__file__).resolve().parent.parent.parent
 sys.path.insert(0, str(TOP / "tests"))
@@ -47,6 +50,9 @@ from mutants import PARTS, Mutant, Unusable, rounds_of  # noqa: E402
 
 # What a check takes at most, in bytes.
 MEMORY = 2_200_000_000
+# So much is left to the gate while it runs.
+GATES_MEMORY = 3_000_000_000
+PROVED = re.compile(r"rt: (\w+) (?:proved$|is kept: )")
 # So many sums of a crate's refused mutants are kept at most, the newest.
 SUMS = 2_000
 UNKNOWN = "has no function `"
@@ -148,7 +154,7 @@ class Repository:
     @functools.lru_cache(maxsize=None)
     def sum_of_kit(self) -> str:
         """A sum of the toolchain and of these scripts."""
-        scripts = [path.read_bytes() for path in sorted(pathlib.Path(__file__).parent.glob("*.py"))]
+        scripts = [pathlib.Path(__file__).with_name(one).read_bytes() for one in ("judging.py", "mutants.py", "run.py")]
         version = subprocess.run(["rt", "version"], capture_output=True, check=True).stdout
         return hashlib.sha256(repr((version, (kit() / "WHAT").read_bytes(), scripts)).encode()).hexdigest()
 
@@ -222,13 +228,18 @@ class Trial:
             work = pathlib.Path(name, "work")
             work.mkdir()
             rounds, alone = rounds_of(left)
-            for one in rounds:
-                alone += self.round(one, work)
-            for one in alone:
+            # (a function waits for the proofs of those that it calls, which a mutant of the same round may lack)
+            for _ in range(2):
+                waiting: List[Mutant] = []
+                for one in rounds:
+                    unread, unrefused = self.round(one, work)
+                    alone, waiting = alone + unread, waiting + unrefused
+                rounds, _of_none = rounds_of(waiting)
+            for one in alone + waiting:
                 self.alone(one, work)
 
-    def round(self, mutants: List[Mutant], work: pathlib.Path) -> List[Mutant]:
-        """Tries one mutant for each of several functions, and gives those that have to be tried alone."""
+    def round(self, mutants: List[Mutant], work: pathlib.Path) -> Tuple[List[Mutant], List[Mutant]]:
+        """Tries one mutant for each of several functions. It gives those of which the round says nothing, and those that it doesn't refuse."""
         tried = mutants
         while True:
             done = self.check(tried, sorted(one.function for one in tried), work)
@@ -240,12 +251,12 @@ class Trial:
         said = judged(done.lines, {one.function for one in tried})
         if said.fault:
             say("%s: a round counts for nothing, its mutants are tried alone: %s" % (self.crate, said.fault[:300]))
-            return mutants
+            return mutants, []
         for one in tried:
             if one.function in said.refused:
                 self.found[one.name] = None
                 say("%s: refused: %s" % (one.name, said.refused[one.function][:160]))
-        return [one for one in mutants if one.name not in self.found]
+        return [one for one in mutants if one not in tried], [one for one in tried if one.name not in self.found]
 
     def alone(self, mutant: Mutant, work: pathlib.Path) -> None:
         """Tries one mutant with the whole crate, over links to the work that is kept."""
@@ -302,6 +313,41 @@ class Memory:
             say("%s: what was refused can't be kept: %s" % (trial.crate, error))
 
 
+class Gate:
+    """The crates that a gate has proved so far, by what it prints."""
+
+    def __init__(self, lines: Iterable[str]):
+        self.proved: Set[str] = set()
+        self.is_over, self.changed = False, threading.Condition()
+        threading.Thread(target=self.read, args=(lines,), daemon=True).start()
+
+    def read(self, lines: Iterable[str]) -> None:
+        for line in lines:
+            found = PROVED.match(line)
+            if found:
+                self.note(found[1])
+        self.note(None)
+
+    def note(self, crate: Optional[str]) -> None:
+        """Takes note of one more crate, or of the end."""
+        with self.changed:
+            if crate is None:
+                self.is_over = True
+            else:
+                self.proved.add(crate)
+            self.changed.notify()
+
+    def first(self, trials: List[Trial]) -> Optional[Trial]:
+        """The first of some trials that has its libraries, once there are any, and memory for it; none once the gate is over."""
+        with self.changed:
+            while not self.is_over:
+                ready = [one for one in trials if self.proved.issuperset((*one.repository.below(one.crate), one.crate))]
+                if ready and free_memory() > MEMORY + GATES_MEMORY:
+                    return ready[0]
+                self.changed.wait(timeout=10 if ready else None)
+        return None
+
+
 def folder_of(top: pathlib.Path) -> pathlib.Path:
     """Where sums of what was refused are kept: for this repository the user's cache, and for another one a folder of its own."""
     if top != TOP:
@@ -321,6 +367,20 @@ def tried(trial: Trial, memory: Memory, after_gate: bool) -> Trial:
     say("== %s: %d mutants, %d of them refused in an earlier run; %d checks, %.0f s of processor time"
         % (trial.crate, trial.count(), trial.kept, trial.checks, trial.seconds))
     return trial
+
+
+def ended_beside(trials: List[Trial], memory: Memory, gate: Gate) -> Iterator[Trial]:
+    """The trials that end while a gate runs, one at a time."""
+    left = list(trials)
+    while True:
+        one = gate.first(left)
+        if one is None:
+            return
+        left.remove(one)
+        try:
+            yield tried(one, memory, True)
+        except Killed:
+            say("%s: a check was killed, most likely for memory: once more, after the gate" % one.crate)
 
 
 def ended(trials: List[Trial], memory: Memory, after_gate: bool, lanes: int) -> Iterator[Trial]:
@@ -353,8 +413,12 @@ def outcomes(asked: argparse.Namespace) -> Iterator[Outcome]:
     for one in trials:
         memory.read(one)
     trials.sort(key=lambda one: -repository.cost(one.crate))
+    done = []
+    for one in ended_beside(trials, memory, Gate(sys.stdin)) if asked.beside_gate else ():
+        done.append(one)
+        yield from sorted(one.found.items())
     lanes = asked.lanes or max(min(processors(), int(0.85 * free_memory()) // MEMORY), 1)
-    for one in ended(trials, memory, asked.after_gate, lanes):
+    for one in ended([it for it in trials if it not in done], memory, asked.after_gate or asked.beside_gate, lanes):
         yield from sorted(one.found.items())
     used = resource.getrusage(resource.RUSAGE_CHILDREN)
     print("%d mutants of %d crates, %d of them refused in an earlier run; %d checks, %.1f minutes of processor time, %.1f by the clock"
@@ -365,13 +429,14 @@ def outcomes(asked: argparse.Namespace) -> Iterator[Outcome]:
 def main() -> int:
     reader = argparse.ArgumentParser(description="Tries the mutants of the crates: the check has to refuse each.")
     reader.add_argument("--after-gate", action="store_true", help="`rt ci` has just passed on these sources")
+    reader.add_argument("--beside-gate", action="store_true", help="`rt ci` runs on these sources, and prints to standard input")
     reader.add_argument("--lanes", type=int, help="so many crates at a time, by default by processors and memory")
     reader.add_argument("--anew", action="store_true", help="also those that an earlier run refused")
     reader.add_argument("--kept", type=pathlib.Path, metavar="FOLDER", help="where sums of what was refused are kept, by default the user's cache")
     reader.add_argument("--top", type=pathlib.Path, default=TOP, metavar="FOLDER", help="another repository than this one")
     reader.add_argument("crates", nargs="*", metavar="CRATE", help="these crates alone")
     asked = reader.parse_args()
-    if asked.after_gate:
+    if asked.after_gate or asked.beside_gate:
         # (what runs beside then has limits of time)
         os.nice(10)
     return status_of(outcomes(asked))

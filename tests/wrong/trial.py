@@ -3,13 +3,14 @@
 
 In the crate `sums` a mutant in `one_more` is refused, and a body of `two_more`, which calls it, means the same: a refused callee
 doesn't refuse its caller. In `unread` one body doesn't compile, so that its round counts for nothing. In `outside` a mutant is
-in the contract, and in no body. Then what a check may say, line by line. The last line is `N passed, M failed`.
+in the contract, and in no body. The crate `sums` is tried beside a gate that still runs, the others once it has ended. Then
+what a check may say, line by line. The last line is `N passed, M failed`.
 """
 import pathlib
 import subprocess
 import sys
 import tempfile
-from typing import Dict, Iterator
+from typing import Dict, Iterable, Iterator
 
 HERE = pathlib.Path(__file__).resolve().parent
 sys.path.insert(0, str(HERE.parent))
@@ -41,6 +42,8 @@ MUTANTS = {"sums": {"wrong": WRONG, "same": SAME}, "unread": {"wrong": WRONG, "u
 WANTED = {"sums/wrong": "refused: ", "sums/same": "NOT REFUSED: ", "unread/wrong": "refused, alone", "unread/unread": "BAD: ",
           "outside/contract": "refused, alone"}
 CLOSING = "3 passed, 2 failed"
+# What a gate prints before it has come to the crate `outside`.
+GATE = "rt: sums proved\nrt: unread: trying its must-fail edits (2)\n"
 
 # What a check says of functions `low` and `high`, both with a mutant, and of `other`, which has none; and which are refused.
 REFUSED = "fn c::m::low: no proof: expected answers in ./proofs/m/low/Answers.antt; `search` did not prove `returns`"
@@ -79,23 +82,37 @@ def write_repository(top: pathlib.Path) -> None:
             (top / "crates" / crate / "wrong" / (name + ".edit")).write_text("why: a trial\nfile: src/lib.rt\n" + pairs)
 
 
-def run(top: pathlib.Path) -> Dict[str, str]:
-    """By name of a mutant what is said of it, and the last line under no name."""
-    done = subprocess.run([sys.executable, str(HERE / "run.py"), "--lanes", "1", "--top", str(top)], stdout=subprocess.PIPE, text=True, check=False)
-    lines = done.stdout.splitlines() or [""]
+def through_sums(lines: Iterable[str]) -> Iterator[str]:
+    """The lines up to the one that ends the crate `sums`."""
+    for line in lines:
+        yield line
+        if line.startswith("== sums"):
+            return
+
+
+def run(top: pathlib.Path, gate: str) -> Dict[str, str]:
+    """By name of a mutant what is said of it, and the last line under no name. A gate that prints this ends once `sums` is tried."""
+    words = [sys.executable, str(HERE / "run.py"), "--beside-gate", "--lanes", "1", "--top", str(top)]
+    with subprocess.Popen(words, stdin=subprocess.PIPE, stdout=subprocess.PIPE, text=True) as running:
+        running.stdin.write(gate)
+        running.stdin.flush()
+        lines = list(through_sums(running.stdout)) if gate else []
+        running.stdin.close()
+        lines += running.stdout
+    lines = [one.rstrip() for one in lines] or [""]
     return {**dict(line.split(": ", 1) for line in lines if line.startswith(tuple(WANTED))), "": lines[-1]}
 
 
 def outcomes_of_runs(top: pathlib.Path) -> Iterator[Outcome]:
     """What the crates come to, and once more with what is kept of them."""
     write_repository(top)
-    said = run(top)
+    said = run(top, GATE)
     for name, wanted in WANTED.items():
         yield name, None if said.get(name, "").startswith(wanted) else "wanted '%s', got '%s'" % (wanted, said.get(name))
     yield "the sum", None if said[""] == CLOSING else said[""]
     for one in ("unread/wrong/unread.edit", "sums/wrong/same.edit"):
         (top / "crates" / one).unlink()
-    again = run(top)
+    again = run(top, "")
     yield "what was refused is kept", None if again == {"": "3 passed, 0 failed"} else repr(again)
 
 
