@@ -83,5 +83,6 @@ demo-etcd:
 format:
 	@for crate in crates/*/; do (cd $$crate && rt fmt > /dev/null) || exit 1; done
 
+# With MINUTES=N no mutant's check begins later than that.
 test:
-	@python3 tests/run.py
+	@python3 tests/run.py $(if $(MINUTES),--minutes $(MINUTES))

@@ -6,10 +6,14 @@ a history that grows, random ones watched, small histories decided as large ones
 histories surveyed. So do the altered certificates, the refused allocations and the hostile records. Last come the scripts of recipes/
 on stored inputs, the package of python/ as pip installs it, and what the documents name.
 
+    run.py [--minutes N]
+
+Where a machine stops a run after a time, --minutes says when the last check of a mutant begins. Those that are left are named.
 The scripts run side by side, and the output of each is shown when it ends; those that measure time run last and alone.
 A table says where the time went (`spent.py`). What failed is shown once more after it, as a log may keep its end alone. The last
 line is `N passed, M failed`, the sum of all; the status is 0 only where all passed.
 """
+import argparse
 import collections
 import concurrent.futures
 import contextlib
@@ -131,9 +135,12 @@ def of_script(test):
 
 
 def main():
+    reader = argparse.ArgumentParser(description="Runs all tests.")
+    reader.add_argument("--minutes", help="no check of a mutant begins later than that")
+    minutes = reader.parse_args().minutes
     counts = Counts()
     with Watch() as watch:
-        mutants = Beside(of_script(MUTANTS))
+        mutants = Beside(of_script(MUTANTS + (" --minutes " + minutes if minutes else "")))
         counts.run(GATE, mutants)
         if counts.failed:
             mutants.stop()

@@ -1,7 +1,7 @@
 #!/usr/bin/env python3
 """Tries the mutants of the crates: the check has to refuse each.
 
-    run.py [--after-gate|--beside-gate] [--lanes N] [--anew] [--kept FOLDER] [--top FOLDER] [CRATE ..]
+    run.py [--after-gate|--beside-gate] [--minutes N] [--lanes N] [--anew] [--kept FOLDER] [--top FOLDER] [CRATE ..]
 
 A mutant is a body of a function with a planted mistake, in a file crates/CRATE/wrong/NAME.edit: a line `why:`, which names the clause that
 refuses it, a line `file:`, and pairs of lines `old:` and `new:`. Each old text is once in its file.
@@ -18,7 +18,8 @@ Each crate has to be proved. With --after-gate `rt ci` has just passed on these 
 --beside-gate it runs, and what it prints comes on standard input: a crate's turn comes once it is proved, one crate at a time, on
 what the gate leaves of processors and memory, and those that are left come where the input ends. Else `rt lib` proves what
 changed. What was refused is kept on this machine, as `rt ci` keeps what it passed: by sums of all that the
-answer rests on, so that any checkout here finds it; --anew tries all again. The last line is `N passed, M failed`.
+answer rests on, so that any checkout here finds it; --anew tries all again. With --minutes no check begins later than that; what is
+left is named, and counts neither as passed nor as failed. The last line is `N passed, M failed`.
 """
 import argparse
 import concurrent.futures
@@ -174,8 +175,8 @@ class Check(NamedTuple):
 class Trial:
     """The mutants of a crate, and what is found of them: by name why one isn't refused, or None."""
 
-    def __init__(self, repository: Repository, crate: str):
-        self.repository, self.crate = repository, crate
+    def __init__(self, repository: Repository, crate: str, end: Optional[float]):
+        self.repository, self.crate, self.end = repository, crate, end
         self.mutants: List[Mutant] = []
         self.found: Dict[str, Optional[str]] = {}
         self.kept = self.checks = 0
@@ -187,7 +188,13 @@ class Trial:
                 self.found["%s/%s" % (crate, path.name)] = "BAD: %s" % error
 
     def count(self) -> int:
-        return len(self.found) + sum(one.name not in self.found for one in self.mutants)
+        return len(self.found) + len(self.untried())
+
+    def untried(self) -> List[Mutant]:
+        return [one for one in self.mutants if one.name not in self.found]
+
+    def is_late(self) -> bool:
+        return self.end is not None and time.time() > self.end
 
     def check(self, mutants: List[Mutant], only: List[str], work: pathlib.Path) -> Check:
         """Checks a copy of the crate with these mutants, over the work that is kept, and keeps there what it proved."""
@@ -213,8 +220,8 @@ class Trial:
 
     def run(self, after_gate: bool) -> None:
         """Tries all mutants of which nothing is known yet."""
-        left = [one for one in self.mutants if one.name not in self.found]
-        if not left:
+        left = self.untried()
+        if not left or self.is_late():
             return
         if not (self.repository.folder(self.crate) / "src/lib.rt").is_file():
             self.found.update((one.name, "BAD: mutants are tried in libraries alone") for one in left)
@@ -232,11 +239,12 @@ class Trial:
             for _ in range(2):
                 waiting: List[Mutant] = []
                 for one in rounds:
-                    unread, unrefused = self.round(one, work)
+                    unread, unrefused = ([], []) if self.is_late() else self.round(one, work)
                     alone, waiting = alone + unread, waiting + unrefused
                 rounds, _of_none = rounds_of(waiting)
             for one in alone + waiting:
-                self.alone(one, work)
+                if not self.is_late():
+                    self.alone(one, work)
 
     def round(self, mutants: List[Mutant], work: pathlib.Path) -> Tuple[List[Mutant], List[Mutant]]:
         """Tries one mutant for each of several functions. It gives those of which the round says nothing, and those that it doesn't refuse."""
@@ -366,6 +374,8 @@ def tried(trial: Trial, memory: Memory, after_gate: bool) -> Trial:
     memory.write(trial, before)
     say("== %s: %d mutants, %d of them refused in an earlier run; %d checks, %.0f s of processor time"
         % (trial.crate, trial.count(), trial.kept, trial.checks, trial.seconds))
+    if trial.untried():
+        say("%s: NOT TRIED for want of time: %s" % (trial.crate, " ".join(one.path.stem for one in trial.untried())))
     return trial
 
 
@@ -406,7 +416,8 @@ def outcomes(asked: argparse.Namespace) -> Iterator[Outcome]:
     """What each mutant came to."""
     began, repository = time.time(), Repository(asked.top.resolve())
     memory = Memory(asked.kept or folder_of(repository.top), asked.anew)
-    trials = [Trial(repository, one) for one in repository.libraries
+    end = None if asked.minutes is None else began + 60 * asked.minutes
+    trials = [Trial(repository, one, end) for one in repository.libraries
               if (repository.folder(one) / "wrong").is_dir() and (not asked.crates or one in asked.crates)]
     for one in sorted(set(asked.crates) - {it.crate for it in trials}):
         yield one, "it has no mutants"
@@ -421,15 +432,17 @@ def outcomes(asked: argparse.Namespace) -> Iterator[Outcome]:
     for one in ended([it for it in trials if it not in done], memory, asked.after_gate or asked.beside_gate, lanes):
         yield from sorted(one.found.items())
     used = resource.getrusage(resource.RUSAGE_CHILDREN)
-    print("%d mutants of %d crates, %d of them refused in an earlier run; %d checks, %.1f minutes of processor time, %.1f by the clock"
-          % (sum(one.count() for one in trials), len(trials), sum(one.kept for one in trials), sum(one.checks for one in trials),
-             (used.ru_utime + used.ru_stime) / 60, (time.time() - began) / 60))
+    print("%d mutants of %d crates, %d of them refused in an earlier run, %d not tried for want of time"
+          % (sum(one.count() for one in trials), len(trials), sum(one.kept for one in trials), sum(len(one.untried()) for one in trials)))
+    print("%d checks, %.1f minutes of processor time, %.1f by the clock"
+          % (sum(one.checks for one in trials), (used.ru_utime + used.ru_stime) / 60, (time.time() - began) / 60))
 
 
 def main() -> int:
     reader = argparse.ArgumentParser(description="Tries the mutants of the crates: the check has to refuse each.")
     reader.add_argument("--after-gate", action="store_true", help="`rt ci` has just passed on these sources")
     reader.add_argument("--beside-gate", action="store_true", help="`rt ci` runs on these sources, and prints to standard input")
+    reader.add_argument("--minutes", type=float, help="no check begins later than that")
     reader.add_argument("--lanes", type=int, help="so many crates at a time, by default by processors and memory")
     reader.add_argument("--anew", action="store_true", help="also those that an earlier run refused")
     reader.add_argument("--kept", type=pathlib.Path, metavar="FOLDER", help="where sums of what was refused are kept, by default the user's cache")

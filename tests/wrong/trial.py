@@ -90,9 +90,9 @@ def through_sums(lines: Iterable[str]) -> Iterator[str]:
             return
 
 
-def run(top: pathlib.Path, gate: str) -> Dict[str, str]:
+def run(top: pathlib.Path, gate: str, *asked: str) -> Dict[str, str]:
     """By name of a mutant what is said of it, and the last line under no name. A gate that prints this ends once `sums` is tried."""
-    words = [sys.executable, str(HERE / "run.py"), "--beside-gate", "--lanes", "1", "--top", str(top)]
+    words = [sys.executable, str(HERE / "run.py"), "--beside-gate", "--lanes", "1", "--top", str(top), *asked]
     with subprocess.Popen(words, stdin=subprocess.PIPE, stdout=subprocess.PIPE, text=True) as running:
         running.stdin.write(gate)
         running.stdin.flush()
@@ -114,6 +114,8 @@ def outcomes_of_runs(top: pathlib.Path) -> Iterator[Outcome]:
         (top / "crates" / one).unlink()
     again = run(top, "")
     yield "what was refused is kept", None if again == {"": "3 passed, 0 failed"} else repr(again)
+    late = run(top, "", "--minutes", "0", "--anew")
+    yield "what there is no time for", None if late == {"": "0 passed, 1 failed"} else repr(late)
 
 
 def outcomes_of_texts(top: pathlib.Path) -> Iterator[Outcome]:
