@@ -164,13 +164,13 @@ module _ (s : Sessions) (h : History) (f : ℕ → ℕ) (clean : read_faults s �
   right m (inr past) below_k = absurd (omega (arith, past, below_k))
 
   -- the number under which one was delivered
-  abbrev back_to : ℕ → ℕ
+  abbrev pub back_to : ℕ → ℕ
   back_to m = inverse m (cases_lt m (count k))
 
   back_below : (m : ℕ) → m < count k → back_to m < count h
   back_below m inside = (right m (cases_lt m (count k)) inside).0
 
-  back_is : (m : ℕ) → m < count k → f (back_to m) ≡ m
+  pub back_is : (m : ℕ) → m < count k → f (back_to m) ≡ m
   back_is m inside = (right m (cases_lt m (count k)) inside).1
 
   some_back : (m : ℕ) → 0 < m → m < count k → (0 < back_to m) ⊎ (back_to m ≤ 0) → 0 < back_to m

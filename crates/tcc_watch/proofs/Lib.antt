@@ -14,6 +14,7 @@ pub mod Delivering
 pub mod Deciding
 pub mod Beginning
 pub mod Alike
+pub mod Newest
 pub mod Waiting
 pub mod Deliveries
 pub mod Sited
@@ -24,6 +25,7 @@ pub mod ValueLemmas
 pub mod OperationLemmas
 pub mod Worked
 pub mod WorkedLedger
+pub mod WorkedNewest
 pub mod KeepingLemmas
 pub mod LineLemmas
 pub mod ArrivalLemmas

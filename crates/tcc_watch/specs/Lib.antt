@@ -1,4 +1,5 @@
 pub mod Delivered
 pub mod Ledger
+pub mod Newest
 pub mod Verdicts
 pub mod private

@@ -48,15 +48,6 @@ fn first_waiting(lines: &[Line], index: usize) -> Option<&Txn>
     lines[index].waiting.front()
 }
 
-/// How many transactions wait.
-fn waiting_in(lines: &[Line]) -> usize {
-    let mut count: usize = 0;
-    for line in lines {
-        count = count.saturating_add(line.waiting.len());
-    }
-    count
-}
-
 impl Arrivals {
     /// Nothing has come.
     pub(crate) fn new(alloc: Global) -> Result<Arrivals, NoMemory>
@@ -74,8 +65,8 @@ impl Arrivals {
     fn wait(&mut self, alloc: Global, session: Name, txn: Txn) -> Result<usize, NoMemory>
         ensures { (s : Sessions) → AreArrivals s self.old → OnOk result (AreArrivals (with_transaction s session txn) self.new) }
     {
-        let index = add_waiting(alloc, &mut self.lines, session, txn)?;
-        self.hints.make_room(index)?;
+        let index = add_waiting(alloc, &mut self.lines, self.hints.latest(), session, txn)?;
+        self.hints.come(index)?;
         Ok(index)
     }
 
@@ -97,6 +88,7 @@ impl Arrivals {
             return Err(NoMemory);
         };
         self.kept.take(alloc, At { session, place }, &txn, reads)?;
+        self.hints.go();
         Ok(())
     }
 
@@ -137,7 +129,7 @@ impl Arrivals {
         requires { IsOpen self.old }
         ensures { OnOk result (GoesOnAs self.old self.new) }
     {
-        for _round in 0..waiting_in(&self.lines) {
+        for _round in 0..self.hints.waiting() {
             let any = self.deliver_first(alloc)?;
             if !any {
                 return Ok(());

@@ -1,5 +1,6 @@
 //! What the first transaction that waits in each session is known to wait for, so that it isn't looked at again before that has come. A
-//! hint saves time, and nothing else depends on it: values that were written stay, so an old hint says nothing.
+//! hint saves time, and nothing else depends on it: values that were written stay, so an old hint says nothing. So do the session that
+//! came last, after which others are looked for, and the number of transactions that wait.
 
 use crate::operations::visible_write;
 use crate::values::Values;
@@ -10,6 +11,8 @@ use tcc_txn::{Name, NoMemory, Op};
 #[derive(Drop)]
 pub(crate) struct Hints {
     missing: Vec<Option<(Name, u64)>>,
+    latest: usize,
+    waiting: usize,
 }
 
 /// The value that an operation after some others reads from another transaction, where nobody has written it.
@@ -41,15 +44,34 @@ impl Hints {
     pub(crate) fn new(alloc: Global) -> Hints {
         Hints {
             missing: Vec::new(alloc),
+            latest: 0,
+            waiting: 0,
         }
     }
 
-    /// Makes room for the session at an index, if it is the next one.
-    pub(crate) fn make_room(&mut self, index: usize) -> Result<(), NoMemory> {
+    /// The index of the session whose transaction came last.
+    pub(crate) fn latest(&self) -> usize {
+        self.latest
+    }
+
+    /// How many transactions wait.
+    pub(crate) fn waiting(&self) -> usize {
+        self.waiting
+    }
+
+    /// A transaction of the session at an index comes, and waits. Makes room for the session, if it is the next one.
+    pub(crate) fn come(&mut self, index: usize) -> Result<(), NoMemory> {
+        self.latest = index;
+        self.waiting = self.waiting.saturating_add(1);
         if index == self.missing.len() {
             self.missing.push(None)?;
         }
         Ok(())
+    }
+
+    /// A transaction no longer waits.
+    pub(crate) fn go(&mut self) {
+        self.waiting = self.waiting.saturating_sub(1);
     }
 
     /// Notes what the first transaction of a session waits for.

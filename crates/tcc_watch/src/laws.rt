@@ -1,12 +1,13 @@
 //! The laws of histories that grow at their end.
-ghost use Rattle.std.specs.Prelude.{◌≡◌, ◌<◌, ◌⊎◌, ◌↔◌, ℕ, Bool, false, List, []};
+ghost use Rattle.std.specs.Prelude.{◌≡◌, ◌<◌, ◌≤◌, ◌⊎◌, ◌↔◌, ℕ, Bool, false, List, []};
 ghost use Rattle.tcc_txn.specs.{Nested.list_of, Snapshots.Sessions};
 ghost use Rattle.tcc_reads.specs.{Faults.read_faults, Sources.history};
 ghost use Rattle.tcc_reads.specs.History.{Entry, History, count};
-ghost use Rattle.tcc_graph.specs.{Levels.judged, Links.IsLink, Routes.HasCycle, Walks.IsReached, declared.level.Level.Level, declared.link.Link.Link};
+ghost use Rattle.tcc_graph.specs.{Levels.Judged, Levels.judged, Links.IsLink, Links.cost, Routes.HasCycle, Routes.IsCycle, Walks.IsReached, declared.level.Level.Level, declared.link.Link.Link};
 ghost use Rattle.tcc_watch.specs.Ledger.{IsLedger};
 ghost use Rattle.tcc_watch.specs.{Verdicts.IsVerdict, declared.verdict.Verdict.Verdict};
 ghost use Rattle.tcc_watch.specs.Delivered.{AllWait, AreAlike, IsBy, IsDelivered, IsDeliveryOf, MayCome, with_last};
+ghost use Rattle.tcc_watch.specs.Newest.{AreCheaper, Closes, Continues, HasReader, IsNewestReader, MayAllCome, with_more};
 
 /// Where a transaction comes after all that it needs, each link stays one. Each new link is a pair into it, or a derived link of which
 /// it is the reader. Nothing that was there is reached from more than before.
@@ -48,4 +49,18 @@ pub fn ledgers()
 /// A snapshot has only one verdict at a level, in whatever order its sessions came, and whatever was known before.
 pub fn verdicts()
     ensures { (s : Sessions) (level : Level) (v : Verdict) (w : Verdict) → IsVerdict s level v → IsVerdict s level w → v ≡ w }
+{}
+
+/// Where transactions have their numbers in the order of delivery, the newest one that a cycle names is no end of its links. It's the
+/// reader of a derived one. So a cycle that new transactions bring has a new reader. Where the least cost of a snapshot falls as it goes
+/// on, each least cycle has one. What a cycle costs is the walk to its newest reader, the read, and a route over older transactions.
+pub fn newest_reader()
+    ensures reader { (j : Judged) (s : ℕ) (links : List Link) → IsDelivered j.history → IsCycle j s links → (z : ℕ) × IsNewestReader z links }
+    ensures brought { (h : History) (more : List Entry) (level : Level) (s : ℕ) (links : List Link) → IsDelivered h → MayAllCome h more
+        → IsCycle (judged (with_more h more) level) s links
+        → IsCycle (judged h level) s links ⊎ ((z : ℕ) × (count h ≤ z) × IsNewestReader z links) }
+    ensures falls { (small large : Sessions) (h : History) (more : List Entry) (f g : ℕ → ℕ) (level : Level) (s : ℕ) (links : List Link)
+        → Continues small large h more f g → IsCycle (judged (history large) level) s links → AreCheaper (judged (history small) level) links
+        → (z : ℕ) × (count h ≤ z) × (z < count (with_more h more)) × HasReader links (g z) }
+    ensures costs { (j : Judged) (s : ℕ) (links : List Link) → IsDelivered j.history → IsCycle j s links → (z : ℕ) × Closes j z (cost links) }
 {}

@@ -26,6 +26,18 @@ fn line_of(lines: &[Line], name: &Name) -> Option<usize>
     None
 }
 
+/// The index of a session. From `latest` on it is looked for first, since sessions come in about the same order again and again.
+fn line_from(lines: &[Line], latest: usize, name: &Name) -> Option<usize>
+    ensures { MatchOption result (HasNoLine lines.now name.now) (IsLineOf lines.now name.now) }
+{
+    for index in latest..lines.len() {
+        if lines[index].name == *name {
+            return Some(index);
+        }
+    }
+    line_of(lines, name)
+}
+
 /// A new session, in which a transaction waits.
 fn add_line(alloc: Global, lines: &mut Vec<Line>, name: Name, txn: Txn) -> Result<usize, NoMemory>
     ensures { IfOk result (AddsLine lines.old.items lines.new.items name txn) }
@@ -45,12 +57,13 @@ fn add_line(alloc: Global, lines: &mut Vec<Line>, name: Name, txn: Txn) -> Resul
 pub(crate) fn add_waiting(
     alloc: Global,
     lines: &mut Vec<Line>,
+    latest: usize,
     name: Name,
     txn: Txn,
 ) -> Result<usize, NoMemory>
     ensures { IfOk result (WaitsMore lines.old.items lines.new.items name txn) }
 {
-    match line_of(lines, &name) {
+    match line_from(lines, latest, &name) {
         Some(index) => {
             lines[index].waiting.push_back(txn)?;
             Ok(index)

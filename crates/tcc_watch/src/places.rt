@@ -52,6 +52,15 @@ impl Places {
         }
     }
 
+    /// None of so many sessions has to come.
+    fn with_room(alloc: Global, sessions: usize) -> Result<Places, NoMemory>
+        ensures { IfOk result (λ row. (session : ℕ) → slice_index row session ≡ 0) }
+    {
+        Ok(Places {
+            places: vec![in alloc; 0u32; sessions]?,
+        })
+    }
+
     /// How far a session has to come.
     pub(crate) fn at(&self, session: u32) -> u32
         ensures { result ≡ slice_index self.now session }
@@ -98,6 +107,18 @@ impl Places {
     }
 }
 
+/// How many sessions the row of a transaction has over the rows of others, so that it is made once and doesn't grow.
+fn sessions_over(rows: &[Places], parents: &[u32], at: At) -> usize
+    requires { All (λ p. p < length rows.now) parents.now }
+{
+    let mut sessions = at.session as usize + 1;
+    for parent in parents {
+        let row = &rows[*parent as usize];
+        sessions = sessions.max(row.places.len());
+    }
+    sessions
+}
+
 /// The row of a transaction over the rows of those right before it.
 pub(crate) fn row_over(
     alloc: Global,
@@ -108,7 +129,7 @@ pub(crate) fn row_over(
     requires { All (λ p. p < length rows.now) parents.now }
     ensures { IfOk result (IsRowOver rows.now parents.now at.session at.place) }
 {
-    let mut row = Places::new(alloc);
+    let mut row = Places::with_room(alloc, sessions_over(rows, parents, at))?;
     for parent in parents {
         row.raise(&rows[*parent as usize])?;
     }
