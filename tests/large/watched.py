@@ -200,7 +200,7 @@ def surveyed(words):
         text, status = held_up([*words, history])
     if status != 0 or stages_in(text) != ["reading records", "surveying"]:
         return "status %d, shown %s" % (status, shown(text))
-    return first_difference("screen", NOTHING_FOUND, screen_after(text))
+    return wrong_reading(text) or first_difference("screen", NOTHING_FOUND, screen_after(text))
 
 
 def sliced(words):
@@ -274,6 +274,13 @@ def checked_by_blocks(tcc):
     return wrong_growth(text, "judging", 50) or first_difference("screen", b"accepted: order\n", screen_after(text))
 
 
+def wrong_reading(text):
+    """What is wrong with how much of the records is shown to be read, or None. It shows always, never falls, and isn't all from the first on."""
+    told = [percent for stage, percent, _ in LINE.findall(text) if stage == b"reading records"]
+    far = [int(percent) for percent in told if percent]
+    return None if far and len(far) == len(told) and far == sorted(far) and far[0] < 100 else "how much is read: %s" % told
+
+
 def wrong_growth(text, stage, least):
     """What is wrong with how far a stage is shown to be, or None. It shows at times, then always, never falls, grows, and comes to
     at least that many hundredths of all, yet never to all."""
@@ -322,7 +329,7 @@ def wrong_check(words, pipe, parts, stage, far):
     told = [bool(percent) for one, percent, _ in LINE.findall(text) if one.decode() == stage]
     if status != 0 or not told or set(told) != {far}:
         return "status %d, shown %s" % (status, shown(text))
-    return first_difference("screen", b"accepted: order\n", screen_after(text))
+    return (wrong_reading(text) if far else None) or first_difference("screen", b"accepted: order\n", screen_after(text))
 
 
 def checks(tcc):
