@@ -466,6 +466,8 @@ class Lists:
             name = "%s.%s" % (key, element)
             if len(name) > MAX_NAME_BYTES or name in self.elements or name in self._keys:
                 name = "e-%d" % len(self._names)
+                while name in self.elements or name in self._keys:
+                    name += "-"
             self._names[key, element] = name
             self.elements[name] = (key, element)
         return name

@@ -33,6 +33,7 @@ TURNS = 10
 BEGUN = 1 << 20  # bytes: a program that has read so many is at its work
 TURN, BETWEEN = 0.3, 0.05  # seconds: a run shows what it does after a quarter of one
 LINE = re.compile(rb"(reading records|reading the certificate|tracing reads|deciding|surveying|cutting a slice|judging)(?:, (\d+) %)?, (\d+) s\r")
+TYPED = "@typed"  # a word that represents the path of the terminal
 ONE = b"a,begin\na,w,x,1\na,commit\n"
 STALE = ONE + b"a,begin\na,r,x,0\na,commit\n"
 STALE_READ = b"""anomaly: 3 steps, stale-initial-read
@@ -103,17 +104,19 @@ def watched(words, parts, number=None):
         return showed, first, run.wait(LONGEST)
 
 
-def typed(words):
-    """What is wrong with a long run whose records are typed at the terminal, or None: nothing stands among them."""
+def typed(words, keys, wanted):
+    """What is wrong with a long run where these keys are typed at the terminal, or None: nothing stands among them. It reads them by the
+    path that is TYPED among its words, or else as its standard input."""
     with contextlib.ExitStack() as held:
         person, program = terminal(held)
-        run = subprocess.Popen(words, stdin=program, stdout=program, stderr=program)
+        named = [os.ttyname(program) if word == TYPED else word for word in words]
+        run = subprocess.Popen(named, stdin=subprocess.DEVNULL if TYPED in words else program, stdout=program, stderr=program)
         os.close(program)
         text = read_until(person, LINE.search, QUIET + 1)
-        os.write(person, ONE + b"\x04")
+        os.write(person, keys + b"\x04")
         text += read_until(person, lambda text: False, LONGEST)
         run.wait(LONGEST)
-        return first_difference("screen", CONSISTENT, text)
+        return first_difference("screen", wanted, text)
 
 
 def screen_after(text):
@@ -197,7 +200,7 @@ def surveyed(words):
         text, status = held_up([*words, history])
     if status != 0 or stages_in(text) != ["reading records", "surveying"]:
         return "status %d, shown %s" % (status, shown(text))
-    return first_difference("screen", NOTHING_FOUND, screen_after(text))
+    return wrong_reading(text) or first_difference("screen", NOTHING_FOUND, screen_after(text))
 
 
 def sliced(words):
@@ -271,6 +274,13 @@ def checked_by_blocks(tcc):
     return wrong_growth(text, "judging", 50) or first_difference("screen", b"accepted: order\n", screen_after(text))
 
 
+def wrong_reading(text):
+    """What is wrong with how much of the records is shown to be read, or None. It shows always, never falls, and isn't all from the first on."""
+    told = [percent for stage, percent, _ in LINE.findall(text) if stage == b"reading records"]
+    far = [int(percent) for percent in told if percent]
+    return None if far and len(far) == len(told) and far == sorted(far) and far[0] < 100 else "how much is read: %s" % told
+
+
 def wrong_growth(text, stage, least):
     """What is wrong with how far a stage is shown to be, or None. It shows at times, then always, never falls, grows, and comes to
     at least that many hundredths of all, yet never to all."""
@@ -319,7 +329,7 @@ def wrong_check(words, pipe, parts, stage, far):
     told = [bool(percent) for one, percent, _ in LINE.findall(text) if one.decode() == stage]
     if status != 0 or not told or set(told) != {far}:
         return "status %d, shown %s" % (status, shown(text))
-    return first_difference("screen", b"accepted: order\n", screen_after(text))
+    return (wrong_reading(text) if far else None) or first_difference("screen", b"accepted: order\n", screen_after(text))
 
 
 def checks(tcc):
@@ -334,6 +344,8 @@ def checks(tcc):
         yield "a long check", wrong_check([*check, pipe, certificate], pipe, [b"", ONE], "reading records", False)
         text = certificate.read_bytes()
         yield "a long certificate", wrong_check([*check, history, pipe], pipe, [text[:20], text[20:]], "reading the certificate", False)
+        yield "a long check of typed records", typed([*check, TYPED, certificate], ONE, b"accepted: order\n")
+        yield "a long check of a typed certificate", typed([*check, history, TYPED], text, b"accepted: order\n")
         yield "a short check", first_difference(
             "screen", b"accepted: order\n", short(lambda: check_at_terminal([*check, history, certificate], None, []))[0])
         # five million reads, which take a second or two
@@ -354,13 +366,15 @@ def outcomes(tcc):
     yield "a short run", wrong_with(words, [ONE], 0, CONSISTENT, [])
     yield "a long run at the terminal of number 1", wrong_with(words, [b"", ONE], 0, CONSISTENT, reading, 1)
     yield "a long run at no terminal", elsewhere(words)
-    yield "a long run of typed records", typed(words)
+    yield "a long run of typed records", typed(words, ONE, CONSISTENT)
+    yield "a long run of records typed as a file", typed([*words, TYPED], ONE, CONSISTENT)
     yield "a long decision", decided(words)
     yield "a long cutting of a slice", sliced(words)
     survey = [tcc, "survey", "--large"]
     yield "a long reading of a survey", wrong_with(survey, [b"", ONE], 0, NOTHING_FOUND, reading)
     yield "a long survey", surveyed(survey)
     yield "a survey of many blocks of sessions", surveyed_by_blocks(survey)
+    yield "a long survey of typed records", typed(survey, ONE, NOTHING_FOUND)
     yield "a short survey", wrong_with(survey, [ONE], 0, NOTHING_FOUND, [])
     yield from checks(tcc)
     yield "a check of many blocks of sessions", checked_by_blocks(tcc)

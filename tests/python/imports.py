@@ -1,6 +1,7 @@
 """What is made of histories by an import, and of records: in which line something is wrong, the parts of a transaction that reads too much,
 unknown outcomes, and the contradicted reads of many sessions."""
 import io
+from collections import Counter
 from typing import Iterator, Optional
 
 from counted import Outcome
@@ -50,6 +51,29 @@ def parts() -> Iterator[Outcome]:
         reads = [line for line in mine.split("\n") if line.startswith("r,k.")]
         yield differs("reads of %d sessions" % count, (wanted, count, count), (sizes, len(reads), len(set(reads))))
         yield differs("what represents the reader of %d" % count, {"reader/1"}, {lists.real("reader/%d" % place) for place in range(1, len(wanted) + 1)})
+
+
+def apart() -> Iterator[Outcome]:
+    """What is made for a history of lists has names that nothing in the history has, also where that has names as these are: sessions that
+    say in which order elements were appended, that what nobody read came last, and that something is wrong; and registers of elements."""
+    from tcc.lists import APPEND, LIST, OK, READ, Lists, Step, Transaction
+    names, end = ["o.1", "u.1", "f.1", "d", "c"], 10**6
+    appends = [Transaction(number, OK, number + 1, 0, [Step(APPEND, "k", element)]) for number, element in enumerate("1239")]
+    for about, text, is_log, made in (("order", " 1 2 3", False, 1), ("order, and in a log the end", " 1 2 3", True, 2),
+                                      ("a list with an element twice", " 1 2 3 3", False, 1)):
+        every = [*appends, Transaction(4, OK, 5, end, [Step(LIST, "k", text)])]
+        lines = "".join(Lists(every, names, is_log).records(with_faults=True)).splitlines()
+        begun = Counter(line.partition(",")[0] for line in lines if line.endswith(",begin"))
+        yield differs("transactions of each session, of " + about, {name: 1 for name in names}, {name: begun[name] for name in names})
+        yield differs("sessions that are made, of " + about, made, len(set(begun) - set(names)))
+    keys = {"k", "k.1", "e-0", "f.1"}
+    every = [Transaction(0, OK, 1, 0, [Step(APPEND, "k", "1")]), Transaction(1, OK, 2, 0, [Step(READ, key, "0") for key in sorted(keys - {"k"})]),
+             Transaction(2, OK, 3, end, [Step(LIST, "k", " 1")]), Transaction(2, OK, 4, end, [Step(LIST, "k", " 1 1")])]
+    lists = Lists(every, ["a", "b", "c"])
+    lines = "".join(lists.records(with_faults=True)).splitlines()
+    wrong = {line.split(",")[2] for line in lines if line[0] not in "abc" and line.count(",") == 3}
+    yield differs("registers of elements", (1, set()), (len(lists.elements), keys & set(lists.elements)))
+    yield differs("keys of what is wrong", (1, set()), (len(wrong), wrong & (keys | set(lists.elements))))
 
 
 def initial() -> Iterator[Outcome]:
@@ -122,3 +146,4 @@ def outcomes() -> Iterator[Outcome]:
     yield from many_sessions()
     yield from far_lines()
     yield from parts()
+    yield from apart()

@@ -97,6 +97,22 @@ def neighbours() -> Iterator[Outcome]:
         yield differs("older by %s" % told, wanted, [(one.reader, one.operation.value, one.writer) for one in stale])
 
 
+def apart() -> Iterator[Outcome]:
+    """Observers and marks have names that nothing in the history has: here a client is called as the first observer, and a key as the mark."""
+    from tcc.rows import read_history
+    from tcc.versions import Versioned
+    text = "".join(("o.1" + line[1:] if line[0] == "c" else line) + "\n" for line in RECORDS)
+    text = text.replace("b,w,x,2\n", "b,w,x,2\nb,w,x.v20,9\n")
+    one = Versioned(read_history(io.StringIO(text)), {"x": {"1": 10, "2": 20}})
+    got = "".join(one.records()).split()
+    named = (len(one.observers), len(one.marks), {"o.1", "x.v20"} & {*one.observers, *one.marks})
+    yield differs("observers and marks, and which have another's name", (1, 1, set()), named)
+    observer, mark = next(iter(one.observers)), next(iter(one.marks))
+    wanted = ["a,begin", "a,w,x,1", "a,commit", "b,begin", "b,w,x,2", "b,w,x.v20,9", "b,w,%s,1" % mark, "b,commit", "o.1,begin", "o.1,r,x,2", "o.1,commit",
+              "o.1,begin", "o.1,r,x,1", "o.1,r,%s,0" % mark, "o.1,commit", *(line.replace("o.1", observer) for line in OBSERVED)]
+    yield differs("records with them", wanted, got)
+
+
 class Txn(NamedTuple):
     """A transaction: its session, the keys and values that it reads, and those that it writes."""
 
@@ -245,5 +261,6 @@ def outcomes(folder: pathlib.Path, library: str, tcc: List[str]) -> Iterator[Out
     yield from recorded(folder, library, tcc)
     yield from retold(folder)
     yield from neighbours()
+    yield from apart()
     yield from by_definition(tcc, 150)
     yield from of_etcd()
