@@ -13,6 +13,7 @@ it names one, and what is in backquotes has to be there where it is
     a call of a type      `Book::new`: its last word is in some source
     a definition          `IsFirstOrder`, and any name of several humps: some source has it, or it is a file of proofs
     a name before a file  `answer_text` (`tcc_answer/specs`), or of it: the files there have the name
+    a name of a claim     [check](claims/check.md) has `IsWalk`: that page defines it
 
 ARCHITECTURE has to have each crate in a layer. CONTRACTS, DEFINITIONS, MODULES and the pages of claims/ have to be what the sources
 give (`contracts.py`, `definitions.py`, `modules.py`, `claims.py`). So have the examples in doc comments (`examples.py`), and what
@@ -55,7 +56,7 @@ from arguments import ask_for_tcc  # noqa: E402
 from counted import Outcome, status_of  # noqa: E402
 from crates import stands_on  # noqa: E402
 from mutants import Mutant, Unusable  # noqa: E402
-from trust import QUOTED, faults_of_trust  # noqa: E402
+from trust import HEAD, QUOTED, faults_of_trust  # noqa: E402
 
 SECONDS = 1800
 SHOWN = re.compile(r"^```\n(\$ tcc .*?)^```", re.DOTALL | re.MULTILINE)
@@ -73,6 +74,7 @@ OF_CRATE = re.compile(r"(tcc_[a-z_]+)(?:::[A-Za-z_]+)*::([A-Za-z_]+)")
 OF_TYPE = re.compile(r"[A-Z][A-Za-z]+::([A-Za-z_]+)")
 HUMPS = re.compile(r"(?:[A-Z][a-z]+){2,}")
 BEFORE_FILE = re.compile(r"`([A-Za-z_]+)` (?:\(|of )`((?:tcc_[a-z_]+)(?:/[A-Za-z_./]+)?)`")
+CLAIMED = re.compile(r"\]\((claims/\w+\.md)\) has ([^.]*)\.")
 WORD = re.compile(r"`([a-z0-9_/]+)`")
 LEVELS = (ast.Module, ast.ClassDef, ast.FunctionDef)
 # Types of the toolchain, and files that a reader has, makes or names.
@@ -171,12 +173,21 @@ def faults_of_files(line: str) -> Iterator[Outcome]:
         yield "`%s` (`%s`)" % (name, path), None if has_name else "it isn't there"
 
 
+def faults_of_claimed(line: str, folder: pathlib.Path) -> Iterator[Outcome]:
+    """Whether a page of claims defines what a document in the folder says that it has."""
+    for page, said in CLAIMED.findall(line):
+        heads = map(HEAD.match, (folder / page).read_text().splitlines()) if (folder / page).exists() else ()
+        defined = {head.group(1) for head in heads if head}
+        for name in QUOTED.findall(said):
+            yield "`%s` (%s)" % (name, page), None if name in defined else "it doesn't define it"
+
+
 def faults_of_document(document: pathlib.Path) -> Iterator[Outcome]:
     """Whether what the lines of a document name is there, but for those of its code."""
     text = CODE.sub(lambda block: "\n" * block.group().count("\n"), document.read_text())
     for number, line in enumerate(text.splitlines(), 1):
         found = itertools.chain(faults_of_names(line), faults_of_links(line, document.parent), faults_of_anchors(line, document),
-                                faults_of_files(line))
+                                faults_of_files(line), faults_of_claimed(line, document.parent))
         for what, wrong in found:
             yield "%s, line %d: %s" % (document.relative_to(TOP), number, what), wrong
 

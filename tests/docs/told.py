@@ -63,14 +63,16 @@ HELD = {
     "docs/HEADLINE.md": ("`Workers`, a type of 1 to {MAX_WORKERS}",),
     "docs/GLOSSARY.md": ("without `--large`: {MAX_SESSIONS} sessions, {MAX_TRANSACTIONS} transactions,",),
     "docs/MODEL.md": ("more than {MAX_TRANSACTIONS} transactions, or those of more than {MAX_SESSIONS} sessions",),
-    "crates/tcc_cli/src/command_line.rt": ("so many threads, 1 to {!MAX_WORKERS};",),
+    "crates/tcc_cli/src/command_line.rt": (
+        "so many threads, 1 to {!MAX_WORKERS};", "Takes up to {!LARGE_TRANSACTIONS} transactions of {!LARGE_SESSIONS} sessions"),
     "crates/tcc_cli/src/help.rt": (
         "1 to {!MAX_NAME_BYTES} of A-Z",
         "up to {!LARGE_TRANSACTIONS} transactions, {!LARGE_SESSIONS} sessions and {!LARGE_KEYS} keys, in place of\n"
         "{!MAX_TRANSACTIONS}, {!MAX_SESSIONS} and {!MAX_KEYS}",
         "more than {!MAX_INPUT_BYTES} bytes, with '--large' {!LARGE_INPUT_BYTES},",
         "HISTORY has up to {!LARGE_TRANSACTIONS} transactions, {!LARGE_SESSIONS} sessions and {!LARGE_KEYS} keys",
-        "the history has more than {!MAX_INPUT_BYTES} bytes, with '--large' {!LARGE_INPUT_BYTES},"),
+        "the history has more than {!MAX_INPUT_BYTES} bytes, with '--large' {!LARGE_INPUT_BYTES},",
+        "the input has more than {!LARGE_INPUT_BYTES} bytes, or a file"),
 }
 
 

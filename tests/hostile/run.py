@@ -102,6 +102,11 @@ def all_of(byte):
     return itertools.repeat(byte * MEGABYTE, LONG)
 
 
+def long_field():
+    """One record of three fields, the first of which is long."""
+    return itertools.chain(all_of(b"a"), [b",b,c"])
+
+
 def reads_of_nothing():
     """A thousand transactions of 250 reads each, of values that nobody wrote."""
     return (transaction("a", ["r,x,%d" % (n * 250 + k) for k in range(1, 251)]).encode() for n in range(1000))
@@ -120,7 +125,7 @@ def long_walks():
 # Words, records, the status, how the answer begins, and how many bytes of memory there may be for each byte of records.
 LARGE = [
     ("commas", ["explain"], lambda: all_of(b","), 3, b"row 1: FieldCount\n", 26),
-    ("one field", ["explain"], lambda: all_of(b"a"), 3, b"row 1: UnknownWord\n", 4),
+    ("a long field", ["explain"], long_field, 3, b"row 1: FieldCount\n", 4),
     ("empty lines", ["explain"], lambda: all_of(b"\n"), 0, b"consistent: 0 transactions, 0 sessions\norder: init\n", 0),
     ("faults", ["explain"], reads_of_nothing, 2, b"unresolved: 250000 faults\n", 16),
     ("one after the other", ["explain", "--large"], one_after_the_other, 0, b"consistent: 44016 transactions, 4002 sessions\n", 40),

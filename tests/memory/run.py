@@ -99,6 +99,8 @@ clocks
 0 1 0 0
 end
 """
+# A record with a fault, whatever its fields are.
+THREE_FIELDS = b"a,b,c\n"
 LARGE_ORDER = b"tcc-certificate 3 causal\norder 5 4 4\n0 1\n1 1\n2 1\n3 1\nend\n"
 LARGE_CYCLE = b"tcc-certificate 3 causal\ncycle 3 2 3\nS 0 1\nD 1 0 x 2 1\nS 1 2\nleast 0\nend\n"
 # More sessions than a small history has, all but a few of aborted transactions alone.
@@ -153,10 +155,10 @@ FULL_FAULTS = b'{"answer":"unresolved","faults":[\
 {"key":"x","kind":"Aborted","name":"G1a","op":1,"place":1,"row":5,"session":"b","value":1},\
 {"key":"z","kind":"ThinAir","name":null,"op":2,"place":1,"row":6,"session":"b","value":7}],"large":LARGE,"level":"causal",\
 "limits":LIMITS,"sessions":2,"status":2,"transactions":1,"version":"0.1.0"}'
-FULL_ROW = b'{"answer":"none","fault":{"answer":"row","kind":"UnknownWord","row":1},"large":LARGE,"level":"causal","limits":LIMITS,\
+FULL_ROW = b'{"answer":"none","fault":{"answer":"row","kind":"FieldCount","row":1},"large":LARGE,"level":"causal","limits":LIMITS,\
 "status":3,"version":"0.1.0"}'
 FILES = {"certificate": FORK_CERTIFICATE, "two-stale-reads": TWO_STALE_READS, "large-order": LARGE_ORDER, "large-cycle": LARGE_CYCLE,
-         "past": PAST, "five": FIVE, "five-certificate": FIVE_CERTIFICATE}
+         "past": PAST, "five": FIVE, "five-certificate": FIVE_CERTIFICATE, "three-fields": THREE_FIELDS}
 # The file of standard input, or none; the words after `tcc`, the answers, and the status. `@NAME` is one of these files.
 ANSWERS = [
     (STALE, ["explain"], STALE_READ, 1),
@@ -176,7 +178,7 @@ ANSWERS = [
     (None, ["check", FORK, FORK], b"certificate line 1: Header\n", 8),
     (None, ["check", EXAMPLES / "intermediate-read.csv", "@certificate"],
      b"unresolved: 1 faults\nIntermediate b/1 op 1 x 1\n", 2),
-    (None, ["check", "@certificate", "@certificate"], b"row 1: UnknownWord\n", 3),
+    (None, ["check", "@three-fields", "@certificate"], b"row 1: FieldCount\n", 3),
     (None, ["check", "--large", STALE, "@large-cycle"], b"accepted: cycle, 3 steps\n", 0),
     (None, ["check", "--large", FORK, "@large-order"], b"accepted: order\n", 0),
     (None, ["check", "--large", FORK, "@certificate"], b"accepted: order\n", 0),
@@ -196,7 +198,7 @@ ANSWERS = [
     (STALE, ["explain", "--full"], full(FULL_STALE), 1),
     (FORK, ["explain", "--full", "--large"], full(FULL_ORDER, True), 0),
     (EXAMPLES / "aborted-read.csv", ["explain", "--full"], full(FULL_FAULTS), 2),
-    ("@certificate", ["explain", "--full"], full(FULL_ROW), 3),
+    ("@three-fields", ["explain", "--full"], full(FULL_ROW), 3),
     ("@past", ["explain", "--full", "--large"], full(LARGE_FULL_STALE, True), 1),
 ]
 # The same, by one worker and by two.
