@@ -156,7 +156,8 @@ class Watching:
 
     def _is_done(self, told: Answer, is_last: bool = False) -> bool:
         """Takes an answer; whether it is the last. At the end reads that nobody can have written leave nothing judged."""
-        self.answers += 1
+        is_new = told is not self._last
+        self.answers += is_new
         self._last = told
         if isinstance(told, Anomaly) or isinstance(told, Unresolved) and told.violations():
             self.broken = told
@@ -164,7 +165,8 @@ class Watching:
             if not is_last:
                 return False
             self.failed = NoAnswer("reads can't be traced to a write: %s" % told.text(), UNRESOLVED)
-        self._tell(told)
+        if is_new or self.failed:
+            self._tell(told)
         return is_last or self.broken is not None
 
     def _fail(self, why: NoAnswer) -> None:

@@ -189,16 +189,17 @@ def heard(folder: pathlib.Path, tcc: List[str]) -> Iterator[Outcome]:
 
 
 def every(folder: pathlib.Path, tcc: List[str]) -> Iterator[Outcome]:
-    """Who wants every answer gets each: the counts of all seals, and of the end."""
+    """Who wants every answer gets each: the counts of all seals, and of the end, where there is more by then."""
     from tcc import Asking, Recorder
-    said: list = []
-    with Recorder(folder / "every.csv", watch=Asking(said.append, tcc=tcc[-1], every=True)) as recorder:
-        session = recorder.session("a")
-        for count in (16, 32, 48):
-            writes(recorder, session, 16)
-            wait(lambda: said and said[-1].transactions == count)
-        writes(recorder, session, 2)
-    yield differs("every answer", [16, 32, 48, 50], [one.transactions for one in said])
+    for more, last in ((2, [50]), (0, [])):
+        said: list = []
+        with Recorder(folder / ("every-%d.csv" % more), watch=Asking(said.append, tcc=tcc[-1], every=True)) as recorder:
+            session = recorder.session("a")
+            for count in (16, 32, 48):
+                writes(recorder, session, 16)
+                wait(lambda: said and said[-1].transactions == count)
+            writes(recorder, session, more)
+        yield differs("every answer, and %d transactions" % more, [16, 32, 48, *last], [one.transactions for one in said])
 
 
 def left(folder: pathlib.Path) -> Iterator[Outcome]:
