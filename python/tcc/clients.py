@@ -67,13 +67,27 @@ def arguments(ask: argparse.ArgumentParser) -> argparse.Namespace:
                      "once it is whole")
     ask.add_argument("--notes", metavar="FILE", help="the file for annotations: of each transaction the node, the time, and why "
                      "it didn't commit")
-    ask.add_argument("--watch", action="store_true", help="tcc watch answers meanwhile, on standard error: each answer as it comes, the "
-                     "first anomaly in full")
-    add_tcc(ask)
+    add_watch(ask)
     asked = ask.parse_args()
     if asked.clients * asked.transactions > LARGE_TRANSACTIONS:
         ask.error("that would be more than %d transactions in all, which is what tcc takes" % LARGE_TRANSACTIONS)
     return asked
+
+
+def add_watch(ask: argparse.ArgumentParser) -> None:
+    """The options of a recorder that is watched while its clients work."""
+    ask.add_argument("--watch", action="store_true", help="tcc watch answers meanwhile, on standard error: each answer as it comes, the "
+                     "first anomaly in full")
+    add_tcc(ask)
+
+
+def shown_since(begun: float, tcc: Optional[str]) -> Asking:
+    """Each answer of `tcc watch` is shown on standard error, with its time."""
+    def show(answer: Told) -> None:
+        text = str(answer) if isinstance(answer, NoAnswer) else answer.text().rstrip("\n")
+        print("tcc watch, %.1f s: %s" % (time.monotonic() - begun, text), file=sys.stderr, flush=True)
+
+    return Asking(show, tcc=tcc, every=True)
 
 
 def free_ports(many: int) -> List[int]:
@@ -348,14 +362,9 @@ def watched(asked: argparse.Namespace, begun: float) -> Iterator[Optional[Feed]]
     if not asked.watch:
         yield None
         return
-
-    def show(answer: Told) -> None:
-        text = str(answer) if isinstance(answer, NoAnswer) else answer.text().rstrip("\n")
-        print("tcc watch, %.1f s: %s" % (time.monotonic() - begun, text), file=sys.stderr, flush=True)
-
     with tempfile.TemporaryDirectory(prefix="tcc-watch-") as folder:
         with contextlib.closing(Feed(os.path.join(folder, "records.csv"))) as feed:
-            with Watching([feed.path], Asking(show, tcc=asked.tcc, every=True)):
+            with Watching([feed.path], shown_since(begun, asked.tcc)):
                 yield feed
 
 
