@@ -5,10 +5,10 @@
 # make install  the same as make build, and copies it to PREFIX/bin (PREFIX=/usr/local), its man page and bash completion to PREFIX/share
 # make dist     builds it and packs it with man page, completion, recipes and what they need into out/tcc-VERSION-x86_64-linux.tar.gz,
 #               which runs wherever there is a C library of glibc 2.34 or later, as on Debian 12
-# make demo     records clients of a real Redis and shows both answers
-# make demo-postgres   the same with a real PostgreSQL, at two levels of isolation and at a replica
-# make demo-galera     the same with three nodes of MariaDB with Galera: reads at another node, with and without wsrep_sync_wait
-# make demo-etcd       the same with three nodes of etcd: reads that are stale by its own revisions are those that are found
+# make demo     records clients of a real Redis and shows both answers, and those of tcc watch while the clients work
+# make demo-postgres   records those of a real PostgreSQL, at two levels of isolation and at a replica
+# make demo-galera     those of three nodes of MariaDB with Galera: reads at another node, with and without wsrep_sync_wait
+# make demo-etcd       those of three nodes of etcd: reads that are stale by its own revisions are those that are found
 # make format   formats the sources of each crate, which the gate asks for
 # make test     the merge gate and all tests, which CONTRIBUTING.md lists; the last line is `N passed, M failed`
 #

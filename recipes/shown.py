@@ -9,8 +9,9 @@ import signal
 import subprocess
 import sys
 import tempfile
+import threading
 from dataclasses import dataclass
-from typing import Callable, Dict, List, Optional, Sequence, Tuple, TypeVar
+from typing import IO, Callable, Dict, List, Optional, Sequence, Tuple, TypeVar
 
 RECIPES = pathlib.Path(__file__).resolve().parent
 BUILT = RECIPES.parent / "crates/tcc/out/tcc"
@@ -63,9 +64,8 @@ def run(words: List[str], given: Optional[pathlib.Path] = None, into: Optional[p
     said = [pathlib.Path(word).name if word.startswith("/") else word for word in words]
     print("$ " + " ".join(said) + (" < " + given.name if given else "") + (" > " + into.name if into else ""), flush=True)
     status, printed, errors = ended(words, given.read_bytes() if given else b"")
-    print(errors, end="", file=sys.stderr, flush=True)
     if status == UNPLAYED:
-        raise Unplayed("not played in %d turns, at last: %s" % (TURNS, (errors.splitlines() or ["no word why"])[-1]))
+        raise Unplayed("not played in %d turns, at last: %s" % (TURNS, (errors or ["no word why"])[-1].rstrip()))
     if not 0 <= status <= most:
         raise Failed("%s: status %d" % (" ".join(said), status))
     if into:
@@ -73,17 +73,30 @@ def run(words: List[str], given: Optional[pathlib.Path] = None, into: Optional[p
     return printed
 
 
-def ended(words: List[str], given: bytes) -> Tuple[int, bytes, str]:
-    """Runs a command to its end: its status, and what it printed on both streams. One that hangs is asked to end, so that it stops its
-    servers."""
+def ended(words: List[str], given: bytes) -> Tuple[int, bytes, List[str]]:
+    """Runs a command to its end: its status, what it printed, and the lines of its standard error, which are shown as they come. One
+    that hangs is asked to end, so that it stops its servers."""
+    errors: List[str] = []
     with subprocess.Popen(words, stdin=subprocess.PIPE, stdout=subprocess.PIPE, stderr=subprocess.PIPE) as running:
+        lines, running.stderr = running.stderr, None  # so that it is left to the thread
+        showing = threading.Thread(target=show_errors, args=(lines, errors), daemon=True)
+        showing.start()
         try:
-            printed, errors = running.communicate(given, SECONDS)
+            printed, _ = running.communicate(given, SECONDS)
         except subprocess.TimeoutExpired as error:
             raise Failed("%s: no end within %d seconds" % (words[0], SECONDS)) from error
         finally:
             stop(running, signal.SIGTERM, END_SECONDS)
-        return running.returncode, printed, errors.decode(errors="replace")
+            showing.join(END_SECONDS)
+        return running.returncode, printed, errors
+
+
+def show_errors(lines: IO[bytes], kept: List[str]) -> None:
+    """Shows each line on standard error, and keeps it."""
+    with lines:
+        for line in lines:
+            kept.append(line.decode(errors="replace"))
+            print(kept[-1], end="", file=sys.stderr, flush=True)
 
 
 def in_turns(play: Callable[[int], Played]) -> Played:
@@ -118,12 +131,15 @@ def report(tcc: str, folder: pathlib.Path, name: str, reports: pathlib.Path, mor
     page = reports / (name + ".html")
     words = [sys.executable, str(RECIPES / "report.py"), str(folder / (name + ".csv")), "--notes", str(folder / (name + "-notes.csv"))]
     shown(run([*words, *more, "--tcc", tcc, "-o", str(page)], most=UNRESOLVED))
+    if not page.exists():
+        raise Failed("report.py wrote no page")
 
 
 @dataclass(frozen=True)
 class Demo:
     """What is shown: the answers for what a recorder writes in some rounds, by what it is asked for in each. `needs` says what
-    has to be there, beside `library`; `is_expected` whether the answers are what they have to be, and `said` what they are."""
+    has to be there, beside `library`; `is_expected` whether the answers are what they have to be, and `said` what they are. One that is
+    `watched` shows the answers of `tcc watch` too, while clients work."""
 
     about: str
     recorder: pathlib.Path
@@ -132,6 +148,7 @@ class Demo:
     rounds: Dict[str, List[str]]
     is_expected: Callable[[Dict[str, dict]], bool]
     said: str
+    watched: bool = False
 
     def run(self, has_server: bool) -> int:
         """Shows it; the exit status."""
@@ -154,8 +171,9 @@ class Demo:
         print(self.said if found else "NOT what was expected")
         return 0 if found else 1
 
-    def command(self, python: str, words: List[str], turn: int) -> List[str]:
-        return [python, str(self.recorder), *(word.replace(TURN, str(turn)) for word in words)]
+    def command(self, python: str, tcc: str, words: List[str], turn: int) -> List[str]:
+        more = ["--watch", "--tcc", tcc] if self.watched else []
+        return [python, str(self.recorder), *(word.replace(TURN, str(turn)) for word in words), *more]
 
     def answers(self, python: str, tcc: str, reports: Optional[pathlib.Path]) -> Dict[str, dict]:
         """The answer of each round, by its name."""
@@ -163,7 +181,7 @@ class Demo:
         with tempfile.TemporaryDirectory() as given:
             folder = pathlib.Path(given)
             for name, words in self.rounds.items():
-                found[name] = in_turns(lambda turn: answer(tcc, self.command(python, words, turn), folder, name))
+                found[name] = in_turns(lambda turn: answer(tcc, self.command(python, tcc, words, turn), folder, name))
                 print()
             name = next((name for name, one in found.items() if one["answer"] != "consistent"), next(iter(found)))
             report(tcc, folder, name, reports or pathlib.Path(tempfile.mkdtemp(prefix="tcc-report-")))

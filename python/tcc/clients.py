@@ -9,16 +9,21 @@ import signal
 import socket
 import subprocess
 import sys
+import tempfile
 import threading
 import time
 from dataclasses import dataclass, field
 from typing import Any, Callable, ContextManager, Iterator, List, NamedTuple, Optional, Sequence, TextIO, Tuple, Type
 
+from tcc.appended import Appended
 from tcc.limits import LARGE_KEYS, LARGE_TRANSACTIONS
+from tcc.looking import Asking, Told
 from tcc.noted import Transaction, annotations, records, session_name, summary, warnings
 from tcc.notes import Event, write_notes
+from tcc.runner import NoAnswer
+from tcc.watching import Watching
 from tcc.whole import written_whole
-from tcc.words import count_within
+from tcc.words import add_tcc, count_within
 
 # A value is a counter and the number of the client that wrote it, which is less than this.
 CLIENTS = 4096
@@ -52,6 +57,8 @@ def arguments(ask: argparse.ArgumentParser) -> argparse.Namespace:
     ask.add_argument("--seconds", type=count_within(1, 86400), default=20, metavar="N", help="clients stop after so many, by default 20")
     ask.add_argument("--at-least", type=count_within(0, LARGE_TRANSACTIONS), default=0, metavar="N",
                      help="but each goes on until it has done so many, for up to %d times as long; else the status is %d" % (LONGER, UNPLAYED))
+    ask.add_argument("--pause", type=count_within(0, 60000), default=0, metavar="MS",
+                     help="after each turn a client waits for so many milliseconds, by default 0")
     ask.add_argument("--seed", type=int, default=1, metavar="N", help="which keys are picked follows from it, by default 1")
     ask.add_argument("--keep-sessions", action="store_true",
                      help="behind a broken connection a client's session goes on, where all its outcomes are known; so writes that "
@@ -60,10 +67,27 @@ def arguments(ask: argparse.ArgumentParser) -> argparse.Namespace:
                      "once it is whole")
     ask.add_argument("--notes", metavar="FILE", help="the file for annotations: of each transaction the node, the time, and why "
                      "it didn't commit")
+    add_watch(ask)
     asked = ask.parse_args()
     if asked.clients * asked.transactions > LARGE_TRANSACTIONS:
         ask.error("that would be more than %d transactions in all, which is what tcc takes" % LARGE_TRANSACTIONS)
     return asked
+
+
+def add_watch(ask: argparse.ArgumentParser) -> None:
+    """The options of a recorder that is watched while its clients work."""
+    ask.add_argument("--watch", action="store_true", help="tcc watch answers meanwhile, on standard error: each answer as it comes, the "
+                     "first anomaly in full")
+    add_tcc(ask)
+
+
+def shown_since(begun: float, tcc: Optional[str]) -> Asking:
+    """Each answer of `tcc watch` is shown on standard error, with its time."""
+    def show(answer: Told) -> None:
+        text = str(answer) if isinstance(answer, NoAnswer) else answer.text().rstrip("\n")
+        print("tcc watch, %.1f s: %s" % (time.monotonic() - begun, text), file=sys.stderr, flush=True)
+
+    return Asking(show, tcc=tcc, every=True)
 
 
 def free_ports(many: int) -> List[int]:
@@ -141,6 +165,20 @@ class Store(abc.ABC):
         """What clients do once all have worked, one step after the other: so what a round has to show doesn't go by luck."""
 
 
+class Feed:
+    """A file to which clients append each transaction once it has ended, and from which `tcc watch` has it."""
+
+    def __init__(self, path: str):
+        self.path, self._file, self._lock = path, Appended(path), threading.Lock()
+
+    def take(self, one: Transaction) -> None:
+        with self._lock:
+            self._file.append("".join(record + "\n" for record in records([one])))
+
+    def close(self) -> None:
+        self._file.close()
+
+
 def told(error: Exception) -> str:
     """An error in a word or two: its type, and its number where it has one."""
     number = [str(error.args[0])] if error.args and isinstance(error.args[0], int) else []
@@ -158,6 +196,8 @@ class Client:
     chance: random.Random
     keeps_session: bool = False
     begun: float = field(default_factory=time.monotonic)
+    pause: float = 0.0
+    feed: Optional[Feed] = None
     done: List[Transaction] = field(default_factory=list)
     sessions: int = 0
     written: int = 0
@@ -203,6 +243,8 @@ class Client:
             mine.operations = [step for step in mine.operations if step[0] == "w"]
         if mine.committed or mine.operations:
             self.done.append(mine)
+            if self.feed:
+                self.feed.take(mine)
             self.has_session = self.has_session and mine.committed is not None
 
     @contextlib.contextmanager
@@ -222,6 +264,7 @@ class Client:
             with contextlib.suppress(*self.store.broken()), self.connected() as connections:
                 while not much.is_enough(len(self.done)):
                     self.store.turn(self, connections)
+                    time.sleep(self.pause)
                 return
             time.sleep(PAUSE_SECONDS)
 
@@ -288,9 +331,15 @@ class Recorded:
 def run_clients(store: Store, asked: argparse.Namespace) -> Recorded:
     """Lets clients work side by side, and gives all that they did; Unplayed where one didn't come to do enough."""
     begun = time.monotonic()
-    much = Much.of(asked, begun)
-    clients = [Client(store, number, asked.keys, random.Random("%d %d" % (asked.seed, number)), asked.keep_sessions, begun)
-               for number in range(1, asked.clients + 1)]
+    with watched(asked, begun) as feed:
+        clients = [Client(store, number, asked.keys, random.Random("%d %d" % (asked.seed, number)), asked.keep_sessions, begun,
+                          asked.pause / 1000, feed) for number in range(1, asked.clients + 1)]
+        failures = work_all(store, clients, Much.of(asked, begun))
+    return Recorded([one for client in clients for one in client.done], failures, begun)
+
+
+def work_all(store: Store, clients: List[Client], much: Much) -> List[str]:
+    """Lets the clients work to their end: what ended some of them before their time."""
     working = [threading.Thread(target=one.run, args=(much,), daemon=True) for one in clients]
     for thread in working:
         thread.start()
@@ -304,7 +353,19 @@ def run_clients(store: Store, asked: argparse.Namespace) -> Recorded:
         store.end(clients)
     except store.broken() as error:
         raise Unplayed("what clients do in the end: %s" % error) from error
-    return Recorded([one for client in clients for one in client.done], failures, begun)
+    return failures
+
+
+@contextlib.contextmanager
+def watched(asked: argparse.Namespace, begun: float) -> Iterator[Optional[Feed]]:
+    """Where that is asked for, `tcc watch` answers meanwhile for what clients feed it, and at the end for all of it."""
+    if not asked.watch:
+        yield None
+        return
+    with tempfile.TemporaryDirectory(prefix="tcc-watch-") as folder:
+        with contextlib.closing(Feed(os.path.join(folder, "records.csv"))) as feed:
+            with Watching([feed.path], shown_since(begun, asked.tcc)):
+                yield feed
 
 
 @contextlib.contextmanager

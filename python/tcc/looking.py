@@ -148,7 +148,8 @@ def look(sources: Sequence[Source], *, level: str = "causal", large: bool = True
 @dataclass(frozen=True)
 class Asking:
     """Who hears of answers, and how they are asked for while clients work: each time that the records have grown by so much, first
-    once they have this many bytes. With `stops` a recorder that is watched begins no transaction after the store broke its promise."""
+    once they have this many bytes. With `every` they hear of each answer. With `stops` a recorder that is watched begins no transaction
+    after the store broke its promise, or where nothing is judged any more."""
 
     tell: Callable[[Told], None]
     level: str = "causal"
@@ -157,6 +158,7 @@ class Asking:
     least: int = LEAST_BYTES
     tcc: Optional[Path] = None
     stops: bool = False
+    every: bool = False
 
 
 class Looking:
@@ -211,7 +213,7 @@ class Looking:
             if self._over.is_set():
                 return
             self.looks += 1
-            if type(told) is not last:
+            if self.asking.every or type(told) is not last:
                 self.asking.tell(told)
             last = type(told)
             if not isinstance(told, Consistent):

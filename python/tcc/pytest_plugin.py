@@ -7,7 +7,8 @@
         assert_causal(tcc_recorder)
 
 `watched_recorder` records as `tcc_recorder` does, and `tcc watch` answers meanwhile: the first transaction that begins after the store
-broke its promise raises `BrokenPromise`, and the test fails.
+broke its promise raises `BrokenPromise`. The test fails where that was raised in a thread of a client alone, too, and where the last
+answer, for all records, isn't consistent.
 
 A test that judged nothing fails too: one with no records, with records that break a rule, or without the program. `--tcc PATH`,
 or the variable TCC, names the program.
@@ -26,6 +27,12 @@ def pytest_addoption(parser: Any) -> None:
     parser.addoption("--tcc", metavar="PATH", default=None, help="the program tcc, by default $TCC, or else the one on the path")
 
 
+def pytest_runtest_makereport(item: Any, call: Any) -> None:
+    """Keeps whether a test ended by an exception of its own."""
+    if call.when == "call":
+        item.tcc_has_raised = call.excinfo is not None
+
+
 @pytest.fixture
 def tcc_recorder(tmp_path: pathlib.Path) -> Iterator[Recorder]:
     """A recorder whose file is `records.csv` in the test's own folder."""
@@ -36,10 +43,15 @@ def tcc_recorder(tmp_path: pathlib.Path) -> Iterator[Recorder]:
 @pytest.fixture
 def watched_recorder(request: Any, tmp_path: pathlib.Path) -> Iterator[Recorder]:
     """A recorder whose file is `watched.csv` in the test's own folder; the test ends where the store is seen to break its promise."""
-    with Recorder(tmp_path / "watched.csv", watch=stopping(request.config.getoption("--tcc"))) as one:
-        yield one
-    if one.broken is not None and not one.has_stopped:
+    one = Recorder(tmp_path / "watched.csv", watch=stopping(request.config.getoption("--tcc")))
+    yield one
+    one.close()
+    if getattr(request.node, "tcc_has_raised", False):
+        return
+    if one.broken is not None:
         pytest.fail("the store broke its promise (records: %s)\n%s" % (one.path, one.broken.text()), pytrace=False)
+    if one.unjudged is not None:
+        pytest.fail("nothing was judged: %s (records: %s)" % (one.unjudged, one.path), pytrace=False)
 
 
 class AssertCausal:

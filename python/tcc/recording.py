@@ -46,7 +46,7 @@ from tcc.appended import Appended, Busy, NoRecord, Path
 from tcc.known import NAME, NOTES, PENDING, SEAL, Known, Operation, Pair, UnderWay, text_of
 from tcc.looking import Asking, Looking, Moment, Told
 from tcc.notes import cell
-from tcc.runner import Answer
+from tcc.runner import Answer, NoAnswer
 from tcc.watching import Watching, watching_of
 from tcc.written import GREATEST_VALUE, RECORDERS, Written
 
@@ -87,8 +87,9 @@ class Recorder:
     note of each transaction. With `syncs` what is appended reaches the disk before the call returns, so that it survives the end of
     the machine, and not only of the process. `ask` is called with an answer for what was recorded so far, the first one and each of
     another kind. A thread asks again each time that the records have grown by a quarter. `watch` is the same by `tcc watch`, at the cost
-    of what is new. With True the first transaction that begins after the store broke its promise raises `BrokenPromise`. `versions` is a
-    file for the versions that the store gave to what was written, for `explain(.., versions=..)`.
+    of what is new, and `close` waits for its last answer. With True the first transaction that begins after the store broke its promise
+    raises `BrokenPromise`, or `NoAnswer` where nothing is judged any more; so does the end of a block of `with`. `versions` is a file for
+    the versions that the store gave to what was written, for `explain(.., versions=..)`.
     """
 
     def __init__(self, path: Path, number: int = 0, notes: Optional[Path] = None, syncs: bool = False,
@@ -153,7 +154,11 @@ class Recorder:
         return self
 
     def __exit__(self, kind: Optional[Type[BaseException]], error: Optional[BaseException], trace: Optional[TracebackType]) -> None:
+        if kind and self._watching:
+            self._watching.stop()
         self.close()
+        if self._is_stopped_by and not kind:
+            self._is_stopped_by.check_once()
 
     def new_value(self) -> int:
         """A value that this recorder never gave before."""
@@ -169,16 +174,17 @@ class Recorder:
 
     def close(self) -> int:
         """Ends the records: what hasn't ended is of unknown outcome. How many transactions are, of those that this recorder recorded or
-        found open. Where it can't be written it raises why, and can be called again. Closed twice it does nothing."""
+        found open. Where it can't be written it raises why, and can be called again. Closed twice it does nothing. `watch` then gives its
+        last answer."""
         if self._looking:
             self._looking.stop()
-        if self._watching:
-            self._watching.stop()
         with self._lock:
             if self._is_open:
                 self._end_all(lambda one: UNKNOWN)
                 self._end_records()
-            return self.unknown
+        if self._watching:
+            self._watching.finish()
+        return self.unknown
 
     def _end_all(self, end_of: Callable[[UnderWay], str]) -> None:
         """Ends what hasn't ended, each so; the lock is held."""
@@ -229,9 +235,9 @@ class Recorder:
         return self._watching.broken if self._watching else None
 
     @property
-    def has_stopped(self) -> bool:
-        """Whether `BrokenPromise` was raised."""
-        return self._watching is not None and self._watching.has_raised
+    def unjudged(self) -> Optional[NoAnswer]:
+        """Why `watch` judges nothing any more: `tcc` ended without an answer, or at the end reads can't be traced to a write."""
+        return self._watching.failed if self._watching else None
 
     def _moment(self) -> Moment:
         """What there is now; the lock is held."""

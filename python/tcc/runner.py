@@ -82,8 +82,9 @@ class Consistent:
     order: Tuple[str, ...]
 
     def text(self) -> str:
-        """The answer as `tcc` prints it."""
-        return "consistent: %d transactions, %d sessions\norder: %s\n" % (self.transactions, self.sessions, " ".join(self.order))
+        """The answer as `tcc` prints it; one of `tcc watch` has no order."""
+        order = "order: %s\n" % " ".join(self.order) if self.order else ""
+        return "consistent: %d transactions, %d sessions\n%s" % (self.transactions, self.sessions, order)
 
 
 @dataclass(frozen=True)

@@ -37,7 +37,7 @@ from typing import Any, Dict, Iterator, List, Optional, Tuple
 
 sys.path.insert(0, str(pathlib.Path(__file__).resolve().parents[2] / "python"))
 from tcc import Recorder, Session  # noqa: E402
-from tcc.clients import LOOPBACK, UNPLAYED, NoServer, Unplayed, free_ports, wait_until  # noqa: E402
+from tcc.clients import LOOPBACK, UNPLAYED, NoServer, Unplayed, add_watch, free_ports, shown_since, wait_until  # noqa: E402
 from tcc.words import command_line, count_within  # noqa: E402
 
 EXAMPLE = """example: clients that read at any node from what it has, and the reads that are stale
@@ -385,7 +385,10 @@ def work(clients: List[Client], troubles: Troubles, asked: argparse.Namespace) -
 
 def played(asked: argparse.Namespace) -> Tuple[List[Client], int]:
     """Plays the round: the clients, and how many outcomes were unknown."""
-    with cluster(asked.patience) as nodes, Recorder(asked.output, notes=asked.notes, versions=asked.versions) as recorder:
+    with contextlib.ExitStack() as held:
+        nodes = held.enter_context(cluster(asked.patience))
+        watch = shown_since(time.monotonic(), asked.tcc) if asked.watch else False
+        recorder = held.enter_context(Recorder(asked.output, notes=asked.notes, versions=asked.versions, watch=watch))
         clients = [Client(nodes, recorder, asked, number) for number in range(1, asked.clients + 1)]
         with meanwhile(nodes, recorder, asked) as troubles:
             work(clients, troubles, asked)
@@ -409,6 +412,7 @@ def main() -> int:
     ask.add_argument("--versions", metavar="FILE", required=True, help="the file for the versions")
     ask.add_argument("--notes", metavar="FILE", required=True, help="the file for annotations")
     ask.add_argument("--stale", metavar="FILE", help="the file for the stale reads: label and key of each")
+    add_watch(ask)
     asked = ask.parse_args()
     for path in (asked.output, asked.versions, asked.notes):
         if pathlib.Path(path).exists():

@@ -87,6 +87,22 @@ def test_watched(watched_recorder):
         with session.transaction() as one:
             one.write("y", watched_recorder.new_value())
         time.sleep(0.001)
+    raise AssertionError("not stopped")
+
+def test_watched_in_a_thread(watched_recorder):
+    import threading
+    client = threading.Thread(target=test_watched, args=(watched_recorder,))
+    client.start()
+    client.join()
+
+def test_watched_at_the_end(watched_recorder):
+    record(watched_recorder, None)
+
+def test_watched_untraced(watched_recorder):
+    record(watched_recorder, 7)
+
+def test_watched_alone(watched_recorder):
+    record(watched_recorder, 5000)
 
 def test_watched_kept(watched_recorder, assert_causal):
     record(watched_recorder, 5000)
@@ -102,7 +118,8 @@ def record(recorder, value):
 # What pytest's report says of each test, and what is in its message.
 REPORTED = {"test_kept": None, "test_broken": "anomaly: 3 steps, stale-initial-read", "test_untraced": "ThinAir a/2 op 1 x 7",
             "test_nothing": "only 0 transactions", "test_no_records": "Unfinished", "test_watched": "anomaly: 3 steps, stale-initial-read",
-            "test_watched_kept": None}
+            "test_watched_in_a_thread": "anomaly: 3 steps, stale-initial-read", "test_watched_at_the_end": "anomaly: 3 steps, stale-initial-read",
+            "test_watched_untraced": "ThinAir a/2 op 1 x 7", "test_watched_alone": None, "test_watched_kept": None}
 
 
 # The rounds of recipes/ci/test_causal.py, by their folders: the records of each, and what its failure says.
@@ -320,6 +337,9 @@ def fixtures(folder: pathlib.Path, library: str, tcc: List[str]) -> Iterator[Out
     for name, message in REPORTED.items():
         said = cases.get(name)
         yield name, None if (message is None) == (said is None) and (message or "") in (said or "") else "it says %r" % said
+    done = run([python, "-m", "pytest", "-q", "-p", "no:cacheprovider", "--tcc", str(folder / "none"), "-k", "test_watched_alone", "test_store.py"],
+               library, cwd=folder)
+    yield "a watch without a program", None if done.returncode == 1 and "there is no program" in done.stdout else done.stdout[-500:]
 
 
 def rounds(folder: pathlib.Path, library: str, tcc: List[str]) -> Iterator[Outcome]:
@@ -344,8 +364,8 @@ def rounds(folder: pathlib.Path, library: str, tcc: List[str]) -> Iterator[Outco
 
 def failure_of(case) -> Optional[str]:
     """What a test's report says of its failure; none where it passed."""
-    failure = case.find("failure")
-    return None if failure is None else failure.get("message", "") + (failure.text or "")
+    failures = [*case.iter("failure"), *case.iter("error")]
+    return "".join(one.get("message", "") + (one.text or "") for one in failures) if failures else None
 
 
 def same_version(tcc: List[str]) -> Iterator[Outcome]:

@@ -61,7 +61,7 @@ def five_clients(folder: pathlib.Path, tcc: List[str]) -> Iterator[Outcome]:
                 connections[0].values[key] = value
 
     shared = Map()
-    asked = argparse.Namespace(clients=5, transactions=40, keys=3, seconds=60, seed=1, keep_sessions=False, at_least=0)
+    asked = argparse.Namespace(clients=5, transactions=40, keys=3, seconds=60, seed=1, keep_sessions=False, at_least=0, pause=0, watch=False)
     done = clients.run_clients(Store(), asked).done
     written = [pair for one in done for pair in one.writes()]
     yield differs("values of five clients", (200, 200), (len(written), len({value for _, value in written})))

@@ -23,7 +23,8 @@ A case is a JSON object:
 After the cases, the help of each script has to show an example. The clients in Python that README and RECORDING show have to write
 what they saw, also where their connections are cut at every call (`clients.py`). Each way of reading a history has to give the same
 records, and a script that is interrupted to say what it has. The lines of RECORDING for a large history have to end with its status
-(`scripts.py`). The pages of report.py have to be whole, and right in a browser where Chromium is there (`pages.py`). The demos of
+(`scripts.py`). The pages of report.py have to be whole, and right in a browser where Chromium is there (`pages.py`). The demo of Redis
+has to show the answers of `tcc watch` while clients work, which needs no Redis (`watched.py`). The demos of
 recipes/redis, recipes/postgres, recipes/galera and recipes/etcd have to find what they show. Where their servers or their library
 for Python aren't there, or a round couldn't be played on this machine, they are passed over, which is said.
 
@@ -49,6 +50,7 @@ import clients  # noqa: E402
 import lists  # noqa: E402
 import pages  # noqa: E402
 import scripts  # noqa: E402
+import watched  # noqa: E402
 from arguments import ask_for_tcc  # noqa: E402
 from compared import first_difference, shown  # noqa: E402
 from counted import Outcome, guarded, status_of  # noqa: E402
@@ -265,7 +267,7 @@ def outcomes(names: List[str], tcc: List[str]) -> Iterator[Outcome]:
         return
     parts = {"helps": helps(), "first example": first_example(tcc), "clients": clients.outcomes(tcc), "scripts": scripts.outcomes(tcc),
              "lists": lists.outcomes(tcc), "ci": ci.outcomes(tcc), "pages": pages.outcomes(tcc), "unknown outcomes": unknown_outcomes(),
-             "packed": packed(tcc), **{"demo of " + server: demo(server, tcc) for server in ("redis", "postgres", "galera", "etcd")}}
+             "packed": packed(tcc), "watched": watched.outcomes(tcc), **{"demo of " + server: demo(server, tcc) for server in ("redis", "postgres", "galera", "etcd")}}
     for about, part in parts.items():
         yield from guarded(about, part)
 
