@@ -95,7 +95,7 @@ impl Follower {
     {
         for index in known..snapshot.finished(i) {
             let Some(recorded) = snapshot.recorded(i, index) else {
-                return Err(NoMemory);
+                unreachable!()
             };
             self.take(alloc, name, recorded.to_txn(alloc)?)?;
         }
