@@ -1,7 +1,8 @@
 //! A watch that takes what is new in a snapshot that grows.
-ghost use Rattle.std.specs.Prelude.{◌≡◌, ◌≤◌, ◌+◌, ◌^◌, OnErr, OnOk, IfOk, Some, if◌then◌else◌, unwrap_or};
+ghost use Rattle.std.specs.Prelude.{◌≡◌, ◌≤◌, ◌<◌, ◌+◌, ◌^◌, OnErr, OnOk, IfOk, Some, if◌then◌else◌, unwrap_or};
 ghost use Rattle.std.specs.BTreeMap.{Updates, get};
 ghost use Rattle.std.specs.Cmp.Lexicographic.{slice_cmp};
+ghost use Rattle.std.specs.FinMap as sessions;
 ghost use Rattle.std.specs.Ordering.{nat_cmp};
 ghost use Rattle.tcc_txn.specs.{Finished.with_transaction, Nested.IsNested};
 ghost use Rattle.tcc_watch_run.specs.private.Following.{IsFollowing, CanTakeFrom, HasCaughtUp, HasTaken, TakesRest, TakesSession, IsAtStart};
@@ -111,10 +112,11 @@ impl Follower {
     ) -> Result<(), NoMemory>
         requires following { IsFollowing self.old }
         requires nested { IsNested self.old.watch snapshot.now }
+        requires within { i < sessions.len snapshot.now }
         ensures { OnOk result (TakesSession self.old self.new snapshot.now i) }
     {
         let Some(name) = snapshot.name(i) else {
-            return Err(NoMemory);
+            unreachable!()
         };
         // Each session of a snapshot has finished something.
         if snapshot.finished(i) == 0 {
