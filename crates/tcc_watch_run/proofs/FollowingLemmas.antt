@@ -15,10 +15,11 @@ use Rattle.std.proofs.lemmas.Cmp.{tied_itself}
 use Rattle.std.proofs.lemmas.List.{nil_from_length}
 use Rattle.std.proofs.lemmas.Map.Lookups.{exact_bytes}
 use Rattle.std.proofs.lemmas.Option.{get_or_from_slice_get, slice_get-get_or, slice_get_within}
-use Rattle.tcc_txn.specs.Finished.{with_transaction}
+use Rattle.tcc_txn.specs.Finished.{IsWithinLimits, with_transaction}
 use Rattle.tcc_txn.specs.Nested.{IsNested, IsPrefix, list_of}
 use Rattle.tcc_txn.specs.Snapshots.{Sessions, finished_at}
 use Rattle.tcc_txn.specs.Transactions.{Transaction}
+use Rattle.tcc_txn.specs.declared.limits.Limits.TheVariants.{Large}
 use Rattle.tcc_txn.proofs.Nesting.{nested_on, nested_transaction}
 use Rattle.tcc_txn.proofs.SessionEntries.{Named, entry_of_name, list_of_entry}
 use Rattle.tcc_txn.proofs.SortedParts.{name_cmp}
@@ -27,8 +28,9 @@ use Rattle.tcc_reads.specs.Sources.{history}
 use Rattle.tcc_reads.proofs.Counting.{item_at}
 use Rattle.tcc_watch.proofs.LineLemmas.{list_here, list_other}
 use Rattle.tcc_watch_run.specs.declared.following.Follower.{Follower}
-use Rattle.tcc_watch_run.specs.private.Following.{GoesOn, HasAll, HasTaken, IsFollowing, IsNamed, TakesSession}
+use Rattle.tcc_watch_run.specs.private.Following.{GoesOn, HasAll, HasSome, HasTaken, IsFollowing, IsNamed, TakesSession}
 use Rattle.tcc_watch_run.proofs.Committed.{count_more, count_none}
+use Rattle.tcc_watch_run.proofs.Fitting.{within_limits}
 
 -- ---- lists that begin with others
 module _ {X : Type 0} where
@@ -76,6 +78,20 @@ module _ (s : Sessions) where
       let within = slice_get_within (entries s) i (name, finished_at s i) is in
       list_of_entry s (name, finished_at s i) (i, within, get_or_from_slice_get (entries s) i (name, finished_at s i) (name, finished_at s i) is)
 
+-- ---- each session of what was taken has something
+some_more : (w : Sessions) (name : List ℕ) (txn : Transaction) → HasSome w → HasSome (with_transaction w name txn)
+some_more w name txn some q none = by (eq_by_cmp name_cmp q name) refl
+  where
+    found : (b : Bool) → eq_by_cmp name_cmp q name ≡ b → cond b (Some (list_of w name ++ txn ∷ [])) (get w q) ≡ Some []
+    found b tied = ap (λ b. cond b (Some (list_of w name ++ txn ∷ [])) (get w q)) (sym tied) ∙ sym (get-insert nat_list_cmp_total w name (list_of w name ++ txn ∷ []) q) ∙ none
+
+    inside : (x y : List Transaction) → Some x ≡ Some y → x ≡ y
+    inside x y e = cc
+
+    by : (b : Bool) → eq_by_cmp name_cmp q name ≡ b → ⊥
+    by true tied = not_pushed (list_of w name) txn (inside _ _ (found true tied))
+    by false apart = some q (found false apart)
+
 -- ---- one transaction more
 module _ (old new : Follower) (name : List ℕ) (txn : Transaction) (held : IsFollowing old) (is : new.watch ≡ with_transaction old.watch name txn) where
   abbrev w : Sessions
@@ -101,62 +117,54 @@ module _ (old new : Follower) (name : List ℕ) (txn : Transaction) (held : IsFo
       by false apart =
           at false apart ∙ held.taken q ∙ ap length (sym (list_other w name txn q (λ same. untied name q (sym same) apart)))
 
-  some : (q : List ℕ) → get grown q ≡ Some [] → ⊥
-  some q none = by (eq_by_cmp name_cmp q name) refl
-    where
-      found : (b : Bool) → eq_by_cmp name_cmp q name ≡ b → cond b (Some (list_of w name ++ txn ∷ [])) (get w q) ≡ Some []
-      found b tied = ap (λ b. cond b (Some (list_of w name ++ txn ∷ [])) (get w q)) (sym tied) ∙ sym (get-insert nat_list_cmp_total w name (list_of w name ++ txn ∷ []) q) ∙ none
-
-      inside : (x y : List Transaction) → Some x ≡ Some y → x ≡ y
-      inside x y e = cc
-
-      by : (b : Bool) → eq_by_cmp name_cmp q name ≡ b → ⊥
-      by true tied = not_pushed (list_of w name) txn (inside _ _ (found true tied))
-      by false apart = held.some q (found false apart)
-
   pub has_taken : (more : ℕ) → more ≡ unwrap_or (tree.get name_cmp old.taken name) 0 + 1 → tree.Updates name_cmp old.taken new.taken name (Some more)
       → new.committed ≡ old.committed + cond txn.committed 1 0 → HasTaken old new name txn
   has_taken more one updates committed = (
     record {
       taken = λ q. subst (λ (s : Sessions). unwrap_or (tree.get name_cmp new.taken q) 0 ≡ length (list_of s q)) (sym is) (taken more one updates q);
-      some = λ q. subst (λ (s : Sessions). get s q ≡ Some [] → ⊥) (sym is) (some q);
+      some = subst HasSome (sym is) (some_more w name txn held.some);
       committed = omega (arith, committed, held.committed, ap (λ (s : Sessions). count (history s)) is, count_more w name txn);
     },
     is,
   )
 
 -- ---- what is new in a session
-module _ (old now new : Follower) (s : Sessions) (i : ℕ) (name : List ℕ) (named : IsNamed s i name) where
-  -- one more of its transactions
-  pub one_more : (txn : Transaction) (index : ℕ) → GoesOn old now s → index ≡ length (list_of now.watch name)
-      → Some txn ≡ slice_get (finished_at s i) index → HasTaken now new name txn → GoesOn old new s × (index + 1 ≡ length (list_of new.watch name))
-  one_more txn index on counted found (following, is) = (
-    record {
-      following = following;
-      nested = subst (λ (w : Sessions). IsNested w s) (sym is) nested;
-      continues = subst (λ (w : Sessions). IsNested old.watch w) (sym is)
-          (nested_on old.watch now.watch grown on.continues (nested_transaction now.watch name txn));
-    },
-    omega (arith, counted, ap (λ (w : Sessions). length (list_of w name)) is, ap length (list_here now.watch name txn), length-append (list_of now.watch name) (txn ∷ [])),
-  )
-    where
-      grown : Sessions
-      grown = with_transaction now.watch name txn
+module _ (old now : Follower) (s : Sessions) (i : ℕ) (name : List ℕ) (named : IsNamed s i name) where
+  module _ (txn : Transaction) (index : ℕ) (on : GoesOn old now s) (counted : index ≡ length (list_of now.watch name))
+      (found : Some txn ≡ slice_get (finished_at s i) index) where
+    abbrev followed : Sessions
+    followed = with_transaction now.watch name txn
 
-      here : slice_get (list_of s name) (length (list_of now.watch name)) ≡ Some txn
-      here = (λ j. slice_get (named_at s i name named j) (sym counted j)) ∙ sym found
+    here : slice_get (list_of s name) (length (list_of now.watch name)) ≡ Some txn
+    here = (λ j. slice_get (named_at s i name named j) (sym counted j)) ∙ sym found
 
-      nested : IsNested grown s
-      nested q = by (is_eq (name_cmp q name)) refl
-        where
-          by : (b : Bool) → is_eq (name_cmp q name) ≡ b → IsPrefix (list_of grown q) (list_of s q)
-          by true tied =
-              let same : q ≡ name = exact_bytes q name (equal-if (name_cmp q name) tied) in
-              subst (λ (z : List ℕ). IsPrefix (list_of grown z) (list_of s z)) (sym same)
-              (subst (λ (l : List Transaction). IsPrefix l (list_of s name)) (sym (list_here now.watch name txn))
-              (prefix_more (list_of now.watch name) (list_of s name) txn (on.nested name) here))
-          by false apart =
-              subst (λ (l : List Transaction). IsPrefix l (list_of s q)) (sym (list_other now.watch name txn q (λ same. untied q name same apart))) (on.nested q)
+    nested : IsNested followed s
+    nested q = by (is_eq (name_cmp q name)) refl
+      where
+        by : (b : Bool) → is_eq (name_cmp q name) ≡ b → IsPrefix (list_of followed q) (list_of s q)
+        by true tied =
+            let same : q ≡ name = exact_bytes q name (equal-if (name_cmp q name) tied) in
+            subst (λ (z : List ℕ). IsPrefix (list_of followed z) (list_of s z)) (sym same)
+            (subst (λ (l : List Transaction). IsPrefix l (list_of s name)) (sym (list_here now.watch name txn))
+            (prefix_more (list_of now.watch name) (list_of s name) txn (on.nested name) here))
+        by false apart =
+            subst (λ (l : List Transaction). IsPrefix l (list_of s q)) (sym (list_other now.watch name txn q (λ same. untied q name same apart))) (on.nested q)
+
+    -- there is room for one more of its transactions
+    pub one_fits : IsWithinLimits Large s → IsWithinLimits Large followed
+    one_fits = within_limits Large followed s nested (some_more now.watch name txn on.following.some)
+
+    -- one more of its transactions
+    pub one_more : (new : Follower) → HasTaken now new name txn → GoesOn old new s × (index + 1 ≡ length (list_of new.watch name))
+    one_more new (following, is) = (
+      record {
+        following = following;
+        nested = subst (λ (w : Sessions). IsNested w s) (sym is) nested;
+        continues = subst (λ (w : Sessions). IsNested old.watch w) (sym is)
+            (nested_on old.watch now.watch followed on.continues (nested_transaction now.watch name txn));
+      },
+      omega (arith, counted, ap (λ (w : Sessions). length (list_of w name)) is, ap length (list_here now.watch name txn), length-append (list_of now.watch name) (txn ∷ [])),
+    )
 
   -- all of them
   pub all_more : (index : ℕ) → GoesOn old now s → index ≡ length (list_of now.watch name) → length (finished_at s i) ≤ index

@@ -1,5 +1,6 @@
 -- What is said of a snapshot, by the verdict of the watch.
-use Rattle.std.proofs.Common.{◌≡◌, ◌+◌, ◌-◌, ◌∙◌, ℕ, Bool, true, false, List, None, ap, arith, inl, inr, length, subst, sym}
+use Rattle.std.proofs.Common.{◌≡◌, ◌≢◌, ◌+◌, ◌-◌, ◌∙◌, ℕ, Bool, true, false, List, None, ap, arith, inl, inr, length, nat_lt, refl, subst, sym}
+use Rattle.std.specs.Prelude.{if◌then◌else◌}
 use Rattle.std.specs.FinMap.{entries, len, len-entries}
 use Rattle.std.proofs.lemmas.List.{length-map}
 use Rattle.tcc_txn.specs.Snapshots.{Sessions}
@@ -8,11 +9,14 @@ use Rattle.tcc_reads.specs.History.{count}
 use Rattle.tcc_reads.specs.Sources.{history}
 use Rattle.tcc_watch.specs.Verdicts.{IsVerdict}
 use Rattle.tcc_watch.specs.declared.verdict.Verdict.TheVariants as verdict
+use Rattle.tcc_print.specs.Courses.{AreSaidFaults, Said}
 use Rattle.tcc_print.specs.Saying.{IsTold}
-use Rattle.tcc_print.specs.Statuses.{order_status}
+use Rattle.tcc_print.specs.Statuses.{code_of, order_status}
 use Rattle.tcc_print.specs.declared.options.Options.{Options}
 use Rattle.tcc_print.specs.declared.status.Status.{Status}
-use Rattle.tcc_print.specs.declared.status.Status.TheVariants.{Anomaly}
+use Rattle.tcc_print.specs.declared.status.Status.TheVariants.{Anomaly, ReadFaults, Success, TooFew}
+use Rattle.tcc_run.specs.LargeRuns.{IsExplained}
+use Rattle.tcc_run.specs.declared.large.explained.Explained.{Explained}
 use Rattle.tcc_watch_run.specs.Watching.{IsAnomaly, IsConsistent, consistent_line, consistent_said, still_line, still_said}
 use Rattle.tcc_watch_run.specs.declared.told.Told.{Told}
 use Rattle.tcc_watch_run.specs.private.Stages.{IsAsExplained, Knows, KnowsNow, course, told_said}
@@ -41,6 +45,36 @@ still_by options s text status committed sessions counted all is ends =
     let line : text ≡ still_line options.json (count (history s) - 1) (length (history s).sessions)
     = is ∙ (λ i. still_line options.json (number i) (names i)) in
     λ i. record { text = line i; status = ends i; certificate = None }
+
+-- ---- the read faults
+
+-- no order ends a run as read faults do, and no anomaly
+pub order_apart : (required numbers : ℕ) (status : Status) → status ≡ order_status required numbers → status ≢ ReadFaults
+order_apart required numbers status is same = by (nat_lt (numbers - 1) required) (sym is ∙ same)
+  where
+    by : (few : Bool) → (if few then TooFew else Success) ≢ ReadFaults
+    by true e = absurd (omega (arith, ap code_of e))
+    by false e = absurd (omega (arith, ap code_of e))
+
+pub anomaly_apart : Anomaly ≢ ReadFaults
+anomaly_apart e = absurd (omega (arith, ap code_of e))
+
+-- those of what explain --large says, without its certificate
+pub explained_faults : (options : Options) (explained : Said) (told : Told) → told_said told ≡ record explained { certificate = None }
+    → AreSaidFaults options explained told.faults.items → AreSaidFaults options (told_said told) told.faults.items
+explained_faults options explained told is (inl all) = inl (is ∙ ap (λ (said : Said). record said { certificate = None }) all)
+explained_faults options explained told is (inr (apart, none)) = inr ((λ same. apart (sym (ap (λ (said : Said). said.status) is) ∙ same)), none)
+
+abbrev pub told_of : Explained → Bool → Told
+told_of e has_told = record { text = e.text; status = e.status; faults = e.faults; has_told = has_told }
+
+pub as_explained : (options : Options) (s : Sessions) (e : Explained) (has_told : Bool) → IsExplained options s e
+    → IsAsExplained options s (told_of e has_told) × (has_told ≡ has_told) × AreSaidFaults options (told_said (told_of e has_told)) e.faults.items
+as_explained options s e has_told (said, is, text, status, faults) =
+    let same : told_said (told_of e has_told) ≡ record said { certificate = None } = (λ i. record { text = text i; status = status i; certificate = None }) in
+    ((said, is, same), refl, explained_faults options said (told_of e has_told) same faults)
+
+-- ---- what is said
 
 module _ (options : Options) (checkpoints : List Sessions) (w s : Sessions) (same : w ≡ s) (told : Told) where
   -- where there is no anomaly what was known stays

@@ -1,14 +1,15 @@
 //! A watch that takes what is new in a snapshot that grows.
-ghost use Rattle.std.specs.Prelude.{◌≡◌, ◌≤◌, ◌+◌, ◌^◌, OnErr, OnOk, IfOk, Some, if◌then◌else◌, unwrap_or};
+ghost use Rattle.std.specs.Prelude.{◌≡◌, ◌≤◌, ◌<◌, ◌+◌, ◌^◌, OnErr, OnOk, IfOk, Some, if◌then◌else◌, unwrap_or};
 ghost use Rattle.std.specs.BTreeMap.{Updates, get};
 ghost use Rattle.std.specs.Cmp.Lexicographic.{slice_cmp};
+ghost use Rattle.std.specs.FinMap as sessions;
 ghost use Rattle.std.specs.Ordering.{nat_cmp};
-ghost use Rattle.tcc_txn.specs.{Finished.with_transaction, Nested.IsNested};
+ghost use Rattle.tcc_txn.specs.{Finished.IsWithinLimits, Finished.with_transaction, Nested.IsNested, declared.limits.Limits.TheVariants.Large};
 ghost use Rattle.tcc_watch_run.specs.private.Following.{IsFollowing, CanTakeFrom, HasCaughtUp, HasTaken, TakesRest, TakesSession, IsAtStart};
 
 use std::alloc::Global;
 use std::collections::BTreeMap;
-use tcc_txn::{LargeSnapshot, Name, NoMemory, Txn};
+use tcc_txn::{GrowFault, LargeSnapshot, Name, NoMemory, Txn};
 use tcc_watch::Watch;
 
 /// A watch of a snapshot that grows, and how many transactions it has taken.
@@ -66,9 +67,10 @@ impl Follower {
         }
     }
 
-    /// Takes a session's next transaction.
+    /// Takes a session's next transaction, for which there is room.
     fn take(&mut self, alloc: Global, name: Name, txn: Txn) -> Result<(), NoMemory>
-        requires { IsFollowing self.old }
+        requires following { IsFollowing self.old }
+        requires fits { IsWithinLimits Large (with_transaction self.old.watch name txn) }
         ensures { OnOk result (HasTaken self.old self.new name txn) }
     {
         let more = with_one(self.taken_of(&name), true)?;
@@ -77,7 +79,10 @@ impl Follower {
         self.committed = committed;
         match self.watch.advance(alloc, name, txn) {
             Ok(()) => Ok(()),
-            Err(_) => Err(NoMemory),
+            Err(fault) => match fault {
+                GrowFault::NoMemory => Err(NoMemory),
+                GrowFault::TooManySessions | GrowFault::TooManyTransactions => unreachable!(),
+            },
         }
     }
 
@@ -95,7 +100,7 @@ impl Follower {
     {
         for index in known..snapshot.finished(i) {
             let Some(recorded) = snapshot.recorded(i, index) else {
-                return Err(NoMemory);
+                unreachable!()
             };
             self.take(alloc, name, recorded.to_txn(alloc)?)?;
         }
@@ -111,10 +116,12 @@ impl Follower {
     ) -> Result<(), NoMemory>
         requires following { IsFollowing self.old }
         requires nested { IsNested self.old.watch snapshot.now }
+        requires fits { IsWithinLimits Large snapshot.now }
+        requires within { i < sessions.len snapshot.now }
         ensures { OnOk result (TakesSession self.old self.new snapshot.now i) }
     {
         let Some(name) = snapshot.name(i) else {
-            return Err(NoMemory);
+            unreachable!()
         };
         // Each session of a snapshot has finished something.
         if snapshot.finished(i) == 0 {

@@ -2,7 +2,8 @@
 ghost use Rattle.std.specs.Prelude.{◌≡◌, IfErr, IfOk, List, MatchResult, Ok, OnOk, Some};
 ghost use Rattle.std.specs.Io.KnownBytes.{Appends};
 ghost use Rattle.tcc_txn.specs.{Finished.transaction_count, Snapshots.Sessions};
-ghost use Rattle.tcc_print.specs.{Printed.CutsOff, Saying.EndsAnswering, Saying.IsTold, Saying.SaysAt, Saying.SaysLast};
+ghost use Rattle.tcc_rows.specs.declared.recording.Checkpoint.TheVariants as checkpoints;
+ghost use Rattle.tcc_print.specs.{Notes.AddsEach, Notes.read_notes, Printed.CutsOff, Saying.EndsAnswering, Saying.IsTold, Saying.SaysAt, Saying.SaysLast};
 ghost use Rattle.tcc_watch_run.specs.private.Stages.{course};
 
 use crate::told::Told;
@@ -25,6 +26,7 @@ fn tell<T, G, W: Write, N: Write>(
 ) -> Result<(), u8>
     ensures whole { OnOk result (Appends (W.contents out.old) (W.contents out.new) told.now.text.items) }
     ensures cut { IfErr result (λ code. CutsOff (W.contents out.old) (W.contents out.new) told.now.text.items code) }
+    ensures noted { OnOk result (AddsEach (N.contents notes.old) (N.contents notes.new) (read_notes snapshot.now told.now.faults.items)) }
 {
     if send(out, &told.text).is_err() {
         return Err(Status::Device.code());
@@ -45,6 +47,7 @@ pub(crate) fn print_new<T, G, W: Write, N: Write>(
     ensures said { (checkpoints : List Sessions) → IfOk found (IsTold (course run.now.options.now checkpoints) snapshot.now)
         → MatchResult result (SaysLast (course run.now.options.now checkpoints) snapshot.now (W.contents out.old) (W.contents out.new))
         (EndsAnswering (course run.now.options.now checkpoints) snapshot.now (W.contents out.old) (W.contents out.new)) }
+    ensures noted { IfOk result (λ last. AddsEach (N.contents notes.old) (N.contents notes.new) (read_notes snapshot.now last.outcome.faults.items)) }
 {
     match found {
         Ok(outcome) => {
@@ -71,6 +74,8 @@ pub(crate) fn print_unchanged<T, G, W: Write, N: Write>(
     ensures kept { IfOk result (λ now. now ≡ last) }
     ensures said { (checkpoints : List Sessions) → last.transactions ≡ transaction_count snapshot.now
         → SaysAt (course run.now.options.now checkpoints) checkpoint snapshot.now (Some last) (W.contents out.old) (W.contents out.new) result }
+    ensures noted { checkpoint ≡ checkpoints.Seal
+        → IfOk result (λ last. AddsEach (N.contents notes.old) (N.contents notes.new) (read_notes snapshot.now last.outcome.faults.items)) }
 {
     match checkpoint {
         Checkpoint::Seal => {

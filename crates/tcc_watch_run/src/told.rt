@@ -1,6 +1,6 @@
 //! What a watch says of a snapshot.
 ghost use Rattle.std.specs.Prelude.{◌≡◌, ◌+◌, true, IfOk, List};
-ghost use Rattle.tcc_print.specs.{Saying.IsTold, Statuses.order_status};
+ghost use Rattle.tcc_print.specs.{Courses.AreSaidFaults, Saying.IsTold, Statuses.order_status};
 ghost use Rattle.tcc_reads.specs.{History.count, Sources.history};
 ghost use Rattle.tcc_txn.specs.Snapshots.{Sessions};
 ghost use Rattle.tcc_watch_run.specs.private.Following.{HasCaughtUp};
@@ -48,7 +48,8 @@ fn consistent(
     has_told: bool,
 ) -> Result<Told, NoMemory>
     requires { committed + 1 ≡ count (history snapshot.now) }
-    ensures { IfOk result (λ told. (told_said told ≡ consistent_said options.now (history snapshot.now)) × (told.has_told ≡ has_told)) }
+    ensures { IfOk result (λ told. (told_said told ≡ consistent_said options.now (history snapshot.now)) × (told.has_told ≡ has_told)
+        × AreSaidFaults options.now (told_said told) told.faults.items) }
 {
     Ok(Told {
         text: consistent_line(alloc, options.json, committed, snapshot.sessions())?,
@@ -66,7 +67,8 @@ fn still(
     snapshot: &LargeSnapshot,
 ) -> Result<Told, NoMemory>
     requires { committed + 1 ≡ count (history snapshot.now) }
-    ensures { IfOk result (λ told. (told_said told ≡ still_said options.now (history snapshot.now)) × (told.has_told ≡ true)) }
+    ensures { IfOk result (λ told. (told_said told ≡ still_said options.now (history snapshot.now)) × (told.has_told ≡ true)
+        × AreSaidFaults options.now (told_said told) told.faults.items) }
 {
     Ok(Told {
         text: still_line(alloc, options.json, committed, snapshot.sessions())?,
@@ -82,7 +84,8 @@ fn explained<T: Threads + Sync, G: Watcher>(
     snapshot: &LargeSnapshot,
     has_told: bool,
 ) -> Result<Told, NoMemory>
-    ensures { IfOk result (λ told. IsAsExplained run.now.options.now snapshot.now told × (told.has_told ≡ has_told)) }
+    ensures { IfOk result (λ told. IsAsExplained run.now.options.now snapshot.now told × (told.has_told ≡ has_told)
+        × AreSaidFaults run.now.options.now (told_said told) told.faults.items) }
 {
     let Explained {
         text,
@@ -107,8 +110,9 @@ impl Told {
         has_told: bool,
     ) -> Result<Told, NoMemory>
         requires { HasCaughtUp follower.now snapshot.now }
-        ensures { (checkpoints : List Sessions) → Knows run.now.options.now checkpoints snapshot.now has_told
+        ensures told { (checkpoints : List Sessions) → Knows run.now.options.now checkpoints snapshot.now has_told
             → IfOk result (IsTold (course run.now.options.now checkpoints) snapshot.now) }
+        ensures faults { IfOk result (λ told. AreSaidFaults run.now.options.now (told_said told) told.faults.items) }
     {
         let verdict = follower.watch.answer(run.alloc, run.options.level)?;
         match verdict {

@@ -4,18 +4,23 @@ use Rattle.std.specs.BTreeMap as tree
 use Rattle.std.specs.Cmp.Lexicographic.{slice_cmp}
 use Rattle.std.specs.FinMap as map
 use Rattle.std.specs.Ordering.{nat_cmp}
-use Rattle.tcc_txn.specs.Finished.{with_transaction}
+use Rattle.tcc_txn.specs.Finished.{IsWithinLimits, with_transaction}
 use Rattle.tcc_txn.specs.Nested.{IsNested, list_of}
 use Rattle.tcc_txn.specs.Snapshots.{Sessions, finished_at}
 use Rattle.tcc_txn.specs.Transactions.{Transaction}
+use Rattle.tcc_txn.specs.declared.limits.Limits.TheVariants.{Large}
 use Rattle.tcc_reads.specs.History.{count}
 use Rattle.tcc_reads.specs.Sources.{history}
 use Rattle.tcc_watch_run.specs.declared.following.Follower.{Follower}
 
+-- each session has something
+abbrev pub HasSome : Sessions → Type 0
+HasSome s = (name : List ℕ) → map.get s name ≡ Some [] → ⊥
+
 -- the counts are those of what was taken, and each session that was taken from has something
 pub record IsFollowing (f : Follower) : Type 0 where
   pub taken : (name : List ℕ) → unwrap_or (tree.get (slice_cmp nat_cmp) f.taken name) 0 ≡ length (list_of f.watch name)
-  pub some : (name : List ℕ) → map.get f.watch name ≡ Some [] → ⊥
+  pub some : HasSome f.watch
   pub committed : f.committed + 1 ≡ count (history f.watch)
 
 -- nothing was taken, so that each snapshot goes on from there
@@ -30,10 +35,11 @@ HasTaken old new name txn = IsFollowing new × (new.watch ≡ with_transaction o
 abbrev pub IsNamed : Sessions → ℕ → List ℕ → Type 0
 IsNamed s i name = slice_get (map.entries s) i ≡ Some (name, finished_at s i)
 
--- the first `known` transactions of the session were taken
+-- the first `known` transactions of the session were taken, of a snapshot that keeps the limits
 pub record CanTakeFrom (f : Follower) (s : Sessions) (i : ℕ) (name : List ℕ) (known : ℕ) : Type 0 where
   pub following : IsFollowing f
   pub nested : IsNested f.watch s
+  pub fits : IsWithinLimits Large s
   pub named : IsNamed s i name
   pub counted : known ≡ length (list_of f.watch name)
 

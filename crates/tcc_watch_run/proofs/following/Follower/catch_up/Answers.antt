@@ -3,6 +3,10 @@ use Rattle.std.specs.FinMap.{len-entries}
 use Rattle.tcc_watch_run.proofs.FollowingLemmas.{caught_up, one_session}
 use Rattle.tcc_watch_run.proofs.following.Follower.catch_up.Goals as goal
 
+pub take_session-requires-clause-fits : goal.take_session-requires-clause-fits
+take_session-requires-clause-fits c =
+    (omega (arith, c.sessions-i-end.ensures.value, c.sessions-i-end.ensures.few), c.sessions-i-end.ensures.few_transactions)
+
 pub loop-i-preserved : goal.loop-i-preserved
 loop-i-preserved c =
     let takes = c.in_ok-take_session.ensures in (
