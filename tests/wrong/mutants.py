@@ -5,6 +5,7 @@ from typing import Dict, Iterator, List, NamedTuple, Optional, Set, Tuple
 
 NAME = re.compile(r"[A-Za-z0-9_-][A-Za-z0-9_.-]*\.edit")
 PARTS = ("src", "specs", "proofs")
+UNCOMPILED = re.compile(r"(?:\./)?(src/\S+?\.rt):(\d+):\d+: error\[")
 FUNCTION = re.compile(r"^( *)(?:pub(?:\([^)]*\))? )?(?:const )?(?:unsafe )?fn (\w+)", re.MULTILINE)
 IMPL = re.compile(
     r"^impl\b(?P<parameters><[^{]*?>(?= ))?\s*(?:(?P<trait>[\w:]+)(?:<[^{]*?>)? for )?(?P<type>\w+)(?:<(?P<arguments>[\w, ':]*)>)?",
@@ -89,6 +90,16 @@ def function_at(file: str, text: str, at: int) -> Optional[str]:
     modules = [one for one in file[len("src/"):-len(".rt")].split("/") if one not in ("lib", "main", "mod")]
     of_type = type_at(text, above[-1].start()) if indent else ""
     return None if of_type is None else "::".join([*modules, *filter(None, [of_type]), name])
+
+
+def places_of(lines: List[str], crate: pathlib.Path) -> Set[Optional[str]]:
+    """The functions in whose bodies a check of the crate says that it doesn't compile. A mutant leaves each line at its place."""
+    places: Set[Optional[str]] = set()
+    for file, number in (found.groups() for found in map(UNCOMPILED.match, lines) if found):
+        text = (crate / file).read_text(encoding="utf-8")
+        at = len("\n".join(text.split("\n")[:int(number) - 1])) + 1
+        places.add(function_at(file, text, at))
+    return places
 
 
 def type_at(text: str, at: int) -> Optional[str]:

@@ -10,9 +10,10 @@ One check tries as many mutants as there are functions with one. A round of a cr
 them in one copy, and checks these functions alone with what they call (`rattle check --only`). The obligations of a function are
 stated over the contracts of what it calls, never over bodies, so no other mutant changes them. A mutant counts as refused only
 where its own function fails by itself: an obligation isn't proved, or a file of its own proof doesn't fit. That the function
-calls one that isn't proved doesn't count. A round in which a function without a mutant fails by itself, or that doesn't compile,
-counts for nothing. Its mutants are tried alone, each with the whole crate. So is each that isn't in the body of one function, and
-each that neither its round refuses nor one of those that are left: there no mutant of what a function calls is refused any more.
+calls one that isn't proved doesn't count. Where a round doesn't compile, the mutants in whose bodies the errors are leave it, and
+the others are tried again. A round in which a function without a mutant fails by itself counts for nothing. What a round says
+nothing of is tried alone, with the whole crate. So is each that isn't in the body of one function, and each that neither its round
+refuses nor one of those that are left: there no mutant of what a function calls is refused any more.
 
 Each crate has to be proved. With --after-gate `rt ci` has just passed on these sources: its libraries serve as they are. With
 --beside-gate it runs, and what it prints comes on standard input: a crate's turn comes once it is proved, one crate at a time, on
@@ -47,7 +48,7 @@ from counted import Outcome, status_of  # noqa: E402
 from crates import stands_on  # noqa: E402
 from judging import judged, judged_alone  # noqa: E402
 from machine import free_memory, processors  # noqa: E402
-from mutants import PARTS, Mutant, Unusable, rounds_of  # noqa: E402
+from mutants import PARTS, Mutant, Unusable, places_of, rounds_of  # noqa: E402
 
 # What a check takes at most, in bytes.
 MEMORY = 2_200_000_000
@@ -248,14 +249,13 @@ class Trial:
 
     def round(self, mutants: List[Mutant], work: pathlib.Path) -> Tuple[List[Mutant], List[Mutant]]:
         """Tries one mutant for each of several functions. It gives those of which the round says nothing, and those that it doesn't refuse."""
-        tried = mutants
-        while True:
+        tried, done = mutants, Check(0, [""])
+        while tried:
             done = self.check(tried, sorted(one.function for one in tried), work)
-            unknown = [one for one in tried if UNKNOWN + one.function + "`" in "\n".join(done.lines)]
-            if done.status != 2 or not unknown or unknown == tried:
+            unread = self.unread(tried, done)
+            if not unread:
                 break
-            # (a function with nothing to prove is none for the check)
-            tried = [one for one in tried if one not in unknown]
+            tried = [one for one in tried if one not in unread]
         said = judged(done.lines, {one.function for one in tried})
         if said.fault:
             say("%s: a round counts for nothing, its mutants are tried alone: %s" % (self.crate, said.fault[:300]))
@@ -265,6 +265,13 @@ class Trial:
                 self.found[one.name] = None
                 say("%s: refused: %s" % (one.name, said.refused[one.function][:160]))
         return [one for one in mutants if one not in tried], [one for one in tried if one.name not in self.found]
+
+    def unread(self, tried: List[Mutant], done: Check) -> List[Mutant]:
+        """The mutants for which a check of some didn't begin: their functions have nothing to prove, or don't compile."""
+        if done.status == 2:
+            return [one for one in tried if UNKNOWN + one.function + "`" in "\n".join(done.lines)]
+        places = places_of(done.lines, self.repository.folder(self.crate))
+        return [one for one in tried if one.function in places]
 
     def alone(self, mutant: Mutant, work: pathlib.Path) -> None:
         """Tries one mutant with the whole crate, over links to the work that is kept."""

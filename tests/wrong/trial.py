@@ -2,8 +2,8 @@
 """Tries `run.py` itself, on crates of some lines that it makes: what is no mutant isn't called refused.
 
 In the crate `sums` a mutant in `one_more` is refused, and a body of `two_more`, which calls it, means the same: a refused callee
-doesn't refuse its caller. In `unread` one body doesn't compile, so that its round counts for nothing. In `outside` a mutant is
-in the contract, and in no body. The crate `sums` is tried beside a gate that still runs, the others once it has ended. Then
+doesn't refuse its caller. In `unread` one body doesn't compile, and leaves its round to the other. In `outside` a mutant is in
+the contract, and in no body. The crate `sums` is tried beside a gate that still runs, the others once it has ended. Then
 what a check may say, line by line. The last line is `N passed, M failed`.
 """
 import pathlib
@@ -16,7 +16,7 @@ HERE = pathlib.Path(__file__).resolve().parent
 sys.path.insert(0, str(HERE.parent))
 from counted import Outcome, status_of  # noqa: E402
 from judging import judged, judged_alone  # noqa: E402
-from mutants import Unusable, applied, function_at, pairs_of, rounds_of  # noqa: E402
+from mutants import Unusable, applied, function_at, pairs_of, places_of, rounds_of  # noqa: E402
 
 SOURCE = """//! Sums.
 #![tactic(auto)]
@@ -39,7 +39,7 @@ SAME = "old:     one_more(number) + 1\nnew:     1 + one_more(number)\n"
 UNREAD = "old:     one_more(number) + 1\nnew:     one_more(nobody) + 1\n"
 OUTSIDE = "old:     ensures { result ≡ number + 1 }\nnew:     ensures { result ≡ number + 3 }\n"
 MUTANTS = {"sums": {"wrong": WRONG, "same": SAME}, "unread": {"wrong": WRONG, "unread": UNREAD}, "outside": {"contract": OUTSIDE}}
-WANTED = {"sums/wrong": "refused: ", "sums/same": "NOT REFUSED: ", "unread/wrong": "refused, alone", "unread/unread": "BAD: ",
+WANTED = {"sums/wrong": "refused: ", "sums/same": "NOT REFUSED: ", "unread/wrong": "refused: ", "unread/unread": "BAD: ",
           "outside/contract": "refused, alone"}
 CLOSING = "3 passed, 2 failed"
 # What a gate prints before it has come to the crate `outside`.
@@ -66,6 +66,7 @@ SAID = (
     ("a lemma is refused", [REFUSED, LEMMA, ENDED], None),
     ("it doesn't compile", ["./src/m.rt:1:1: error[unknown-name]: `x`"], None),
 )
+UNCOMPILED = ["./src/lib.rt:14:14: error[unknown-name]: `nobody`", "./src/lib.rt:6:15: error: the goal", "note"]
 PLACES = (("u16::from", "one_more"), ("one_more(number)", "two_more"), ("result ≡ number + 2", None), ("#![tactic", None),
           ("pub fn two_more", None))
 
@@ -127,6 +128,8 @@ def outcomes_of_texts(top: pathlib.Path) -> Iterator[Outcome]:
     for text, wanted in PLACES:
         got = function_at("src/lib.rt", SOURCE, SOURCE.index(text))
         yield "where '%s' is" % text, None if got == wanted else "wanted %s, got %s" % (wanted, got)
+    got = places_of(UNCOMPILED, top / "crates/sums")
+    yield "where it doesn't compile", None if got == {"two_more"} else repr(got)
     for status, last, wanted in ((0, "logic=proved", "NOT REFUSED"), (2, "rattle: error", "BAD"), (3, "rattle: no verdict", "BAD")):
         yield "alone, status %d" % status, None if (judged_alone(status, [last], set()) or "").startswith(wanted) else last
     yield "alone, refused", judged_alone(1, [OTHER, "logic=not-proved"], set())
