@@ -1,7 +1,7 @@
 #!/usr/bin/env python3
 """Measures how histories within the large limits are decided, stage by stage.
 
-    large.py [--kinds KIND ..] [--sizes N ..] [--sessions N ..] [--stages PATH] [--keep FOLDER]
+    large.py [--kinds KIND ..] [--sizes N ..] [--sessions N ..] [--stages PATH] [--keep FOLDER] [--beside COMMAND]
 
 Each history has transactions of 8 operations, of which about half are reads. A session reads a prefix of one log of writes that is
 up to 1,000 transactions late, and none that is shorter than one that it read before. At a time 64 sessions work at a time, and
@@ -14,8 +14,9 @@ where there are more a session ends and another begins. Kinds:
 
 A line for each history has the processor seconds of reading, resolving, building the graph, deciding whether there is an order, and
 looking for a cycle. From the graph on it has those of a survey. Each is by `tcc_bench_stages` and without those before it. Then
-come the peak memory, how many steps the cycle has, and how many reads are contradicted. By default histories of 10,000 and 100,000
-transactions; one of 1,000,000 takes minutes and gigabytes.
+come the peak memory, how many steps the cycle has, and how many reads are contradicted. With --beside another program decides the same
+records, which come on its standard input: its processor seconds, how many times as long the stages up to the order take, and its peak
+memory. By default histories of 10,000 and 100,000 transactions; one of 1,000,000 takes minutes and gigabytes.
 """
 import argparse
 import bisect
@@ -24,6 +25,7 @@ import itertools
 import os
 import pathlib
 import random
+import shlex
 import sys
 import tempfile
 
@@ -152,8 +154,8 @@ def spent(words, history, answer):
     return used.ru_utime + used.ru_stime, used.ru_maxrss / 1000, os.waitstatus_to_exitcode(status)
 
 
-def row(stages, path, answer):
-    """Processor seconds of each stage, the peak memory, and what the last two say."""
+def row(stages, beside, path, answer):
+    """Processor seconds of each stage, the peak memory, and what the last two say; and what another program takes, if there is one."""
     taken, said, peak = {None: 0}, {}, 0
     for stage in STAGES:
         taken[stage], memory, status = spent([stages, stage], path, answer)
@@ -161,7 +163,11 @@ def row(stages, path, answer):
             sys.exit("%s: the stage %s ended with status %d" % (path.name, stage, status))
         said[stage], peak = answer.read_text().strip(), max(peak, memory)
     seconds = ["%.2f" % max(0, taken[stage] - taken[before]) for stage, before in STAGES.items()]
-    return seconds + ["%.0f" % peak, said["large-cycle"], said["large-survey"]]
+    cells = seconds + ["%.0f" % peak, said["large-cycle"], said["large-survey"]]
+    if beside:
+        other, memory, _ = spent(beside, path, answer)
+        cells += ["%.2f" % other, "%.1f" % (taken["large-order"] / max(other, 0.01)), "%.0f" % memory]
+    return cells
 
 
 def histories(asked, temporary, write):
@@ -183,12 +189,14 @@ def main():
     ask.add_argument("--sessions", nargs="+", type=int, default=[64, 512, 4094], metavar="N", help="so many sessions")
     ask.add_argument("--stages", help="another program than the built one")
     ask.add_argument("--keep", type=pathlib.Path, help="a folder for the histories, which stay there")
+    ask.add_argument("--beside", default="", metavar="COMMAND", help="another program that decides the records of its standard input")
     asked = ask.parse_args()
+    beside = shlex.split(asked.beside)
     stages = os.path.abspath(asked.stages) if asked.stages else built("tcc_bench_stages")
-    print("history  read  resolve  graph  order  cycle  survey  MB  steps  contradicted")
+    print("history  read  resolve  graph  order  cycle  survey  MB  steps  contradicted" + ("  beside  times  MB" if beside else ""))
     with tempfile.TemporaryDirectory() as temporary:
         for path in histories(asked, temporary, write_history):
-            print(path.stem, *row(stages, path, pathlib.Path(temporary, "answer")), sep="  ", flush=True)
+            print(path.stem, *row(stages, beside, path, pathlib.Path(temporary, "answer")), sep="  ", flush=True)
 
 
 if __name__ == "__main__":
