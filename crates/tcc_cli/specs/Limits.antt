@@ -34,7 +34,7 @@ limits_json = object
 
 -- ---- the table
 
--- a text at the left of a column of so many bytes
+-- a text at the left of a column of this width
 abbrev pub at_left : ℕ → List ℕ → List ℕ
 at_left width text = styled_text (format_spec 32 1 0 width (2 ^ 64 - 1)) text
 

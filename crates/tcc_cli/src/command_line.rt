@@ -515,9 +515,8 @@ pub(crate) fn files_of(alloc: Global, matches: &ArgMatches) -> Result<Files, Err
 fn limits_of(matches: &ArgMatches) -> Request
     ensures { AsksLimits (subcommand_rows_of matches.now) result }
 {
-    Request::Limits {
-        json: is_set(matches, "json"),
-    }
+    let json = is_set(matches, "json");
+    Request::Limits { json }
 }
 
 /// What the matches ask for, by the subcommand that was met.

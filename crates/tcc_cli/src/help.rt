@@ -110,7 +110,7 @@ Statuses, of the last answer or of the fault that ended the run:
 
 /// What the limits are of, and the statuses of their printing.
 pub const LIMITS: &str =
-    "A history is all records of an input, or those before a 'seal'. Of its transactions aborted ones count too.
+    "Counted is all that an input has, aborted transactions too.
 
 With '--json' the keys 'default' and 'large' each have an object, as 'tcc explain --full' has it: 'bytes', 'keys',
 'operations' (of a transaction), 'seals', 'sessions' and 'transactions'. 'name_bytes' and 'workers' are numbers.
