@@ -110,8 +110,7 @@ check_command =
 abbrev pub limits_command : App
 limits_command = with_rule (new_app (codes "limits")) (flag (codes "json"))
 
--- tcc explain [OPTIONS] [FILE], tcc survey [OPTIONS] [FILE], tcc watch [OPTIONS] [FILE], tcc check [--large] HISTORY CERTIFICATE, or
--- tcc limits [--json]. It has the program's name and version, and its subcommands, one of which has to be given
+-- tcc with one of these subcommands, which has to be given; the program has a name and a version
 abbrev pub tcc_command : Words → App
 tcc_command levels =
     let named : App = on_top with_subcommand_required (on_top with_version (new_app (codes "tcc"))) in

@@ -109,8 +109,7 @@ Statuses, of the last answer or of the fault that ended the run:
 'man tcc' says how to read an answer, docs/FORMATS.md of the sources has every text and every limit.";
 
 /// What the limits are of, and the statuses of their printing.
-pub const LIMITS: &str =
-    "Counted is all that an input has, aborted transactions too.
+pub const LIMITS: &str = "Counted is all that an input has, aborted transactions too.
 
 With '--json' the keys 'default' and 'large' each have an object, as 'tcc explain --full' has it: 'bytes', 'keys',
 'operations' (of a transaction), 'seals', 'sessions' and 'transactions'. 'name_bytes' and 'workers' are numbers.

@@ -64,7 +64,12 @@ fn limits_text(alloc: Global) -> Made
     ensures { IfOk result (λ text. text.items ≡ limits_text) }
 {
     let (small, large) = (Limits::Small, Limits::Large);
-    let sessions = limit_line(alloc, "sessions", small.sessions() as u64, large.sessions() as u64)?;
+    let sessions = limit_line(
+        alloc,
+        "sessions",
+        small.sessions() as u64,
+        large.sessions() as u64,
+    )?;
     let transactions = limit_line(
         alloc,
         "transactions",
