@@ -50,10 +50,14 @@ limit_line about small large = at_left 28 about ++ (at_right 12 small ++ (at_rig
 abbrev pub history_line : List ℕ → (Limits → ℕ) → List ℕ
 history_line about most = limit_line about (most Small) (most Large)
 
--- a line for each limit, after one that names the columns
+-- what the columns are
+abbrev pub head_line : List ℕ
+head_line = codes "at most                       by default  with --large\n"
+
+-- after it a line for each limit
 abbrev pub limits_text : List ℕ
 limits_text =
-    codes "at most                       by default  with --large\n"
+    head_line
     ++ (history_line (codes "sessions") most_sessions
     ++ (history_line (codes "transactions") most_transactions
     ++ (limit_line (codes "operations of a transaction") MAX_OPERATIONS MAX_OPERATIONS
