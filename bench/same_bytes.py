@@ -20,9 +20,8 @@ from histories import text_of
 TOP = pathlib.Path(__file__).resolve().parent.parent
 sys.path.insert(0, str(TOP / "tests"))
 from counted import status_of  # noqa: E402
-from limits import limits  # noqa: E402
+import limits  # noqa: E402
 
-TRANSACTIONS = limits()["MAX_TRANSACTIONS"]
 ANOMALY = 1
 KINDS = ["stale-reads", "stale-reads-of-few-keys", "stale-reads-in-one-session", "ring-of-long-links"]
 
@@ -62,11 +61,13 @@ def outcomes(tcc, kinds, transactions, runs):
 def main():
     ask = argparse.ArgumentParser(description="Compares the bytes of many workers with those of one.")
     ask.add_argument("--runs", type=int, default=200, help="runs on each history, by default 200")
-    ask.add_argument("--transactions", type=int, default=TRANSACTIONS, help="of each history, by default %d" % TRANSACTIONS)
+    ask.add_argument("--transactions", type=int, help="of each history, by default as many as a small one may have")
     ask.add_argument("--only", nargs="+", choices=KINDS, default=KINDS, help="these histories alone")
     ask.add_argument("--tcc", default=str(TOP / "crates" / "tcc" / "out" / "tcc"), help="another program than the built one")
     asked = ask.parse_args()
-    return status_of(outcomes(os.path.abspath(asked.tcc), asked.only, asked.transactions, asked.runs))
+    tcc = os.path.abspath(asked.tcc)
+    transactions = asked.transactions or limits.asked(tcc)["default"]["transactions"]
+    return status_of(outcomes(tcc, asked.only, transactions, asked.runs))
 
 
 if __name__ == "__main__":

@@ -10,9 +10,9 @@ _tcc() {
     fi
     COMPREPLY=()
     if [ "$COMP_CWORD" -eq 1 ]; then
-        COMPREPLY=($(compgen -W 'explain survey watch check help --help --version' -- "$word"))
+        COMPREPLY=($(compgen -W 'explain survey watch check limits help --help --version' -- "$word"))
     elif [ "$command" = help ]; then
-        COMPREPLY=($(compgen -W 'explain survey watch check' -- "$word"))
+        COMPREPLY=($(compgen -W 'explain survey watch check limits' -- "$word"))
     elif [ "$command" = explain ]; then
         case $before in
             --level) COMPREPLY=($(compgen -W 'causal atomic' -- "$word")) ;;
@@ -32,6 +32,8 @@ _tcc() {
         esac
     elif [ "$command" = check ] && [[ $word == -* ]]; then
         COMPREPLY=($(compgen -W '--large --help' -- "$word"))
+    elif [ "$command" = limits ] && [[ $word == -* ]]; then
+        COMPREPLY=($(compgen -W '--json --help' -- "$word"))
     fi
 }
 

@@ -1,7 +1,9 @@
-"""The limits of an input, from the sources."""
+"""The limits of an input: from the sources, as wanted answers take them, or as a program says them."""
 import functools
+import json
 import pathlib
 import re
+import subprocess
 from typing import Any, Dict
 
 CRATES = pathlib.Path(__file__).resolve().parent.parent / "crates"
@@ -9,8 +11,8 @@ SOURCES = ("tcc_txn/src/limits.rt", "tcc_base/src/workers.rt")
 CONSTANT = re.compile(r"^pub const (\w+): \w+ = ([^;]+);", re.MULTILINE)
 # In braces an expression over the limits: with a comma before each three digits, or plain after an exclamation mark.
 TEMPLATE = re.compile(r"\{(!?)([A-Z_+1 ]+)\}")
-# In a rule of a row case: a brace, or an expression over the limits.
-RULED = re.compile(r"\{\{|\}\}|\{([^{}]+)\}")
+# In a rule of a row case: a brace, or an expression over the limits, and how it is printed.
+RULED = re.compile(r"\{\{|\}\}|\{([^{}:]+):?([^{}]*)\}")
 
 
 @functools.lru_cache(maxsize=None)
@@ -30,16 +32,30 @@ def of_answer(large: bool) -> Dict[str, int]:
             "seals": known[of + "_SEALS"], "sessions": known[of + "_SESSIONS"], "transactions": known[of + "_TRANSACTIONS"]}
 
 
-def with_limits(json: Any) -> Any:
+def of_program() -> Dict[str, Any]:
+    """All limits, as the line of `tcc limits --json` has them."""
+    known = limits()
+    return {"answer": "limits", "default": of_answer(False), "large": of_answer(True), "name_bytes": known["MAX_NAME_BYTES"],
+            "workers": known["MAX_WORKERS"]}
+
+
+@functools.lru_cache(maxsize=None)
+def asked(*tcc: str) -> Dict[str, Any]:
+    """The limits that a program has, by which a history is made that is above them or at them."""
+    return json.loads(subprocess.run([*tcc, "limits", "--json"], stdout=subprocess.PIPE, check=True).stdout)
+
+
+def with_limits(line: Any) -> Any:
     """A line of `--full` with its limits, where it says only which; any other value as it is."""
-    if not isinstance(json, dict) or json.get("limits") not in ("default", "large"):
-        return json
-    return {**json, "limits": of_answer(json["limits"] == "large")}
+    if not isinstance(line, dict) or line.get("limits") not in ("default", "large"):
+        return line
+    return {**line, "limits": of_answer(line["limits"] == "large")}
 
 
 def ruled(line: str) -> str:
     """A line of a row case, with the values of rules over the limits alone."""
-    return RULED.sub(lambda found: str(eval(found[1], {"__builtins__": {}, "min": min, "max": max}, limits())) if found[1] else found[0][0], line)
+    known = {"__builtins__": {}, "min": min, "max": max, **limits()}
+    return RULED.sub(lambda found: format(eval(found[1], known), found[2]) if found[1] else found[0][0], line)
 
 
 def filled(template: str) -> str:

@@ -1,4 +1,4 @@
-"""The limits of `tcc`, which tests/docs/told.py --write writes from its sources."""
+"""What `tcc limits` prints, which tests/docs/told.py --write writes from the sources."""
 MAX_NAME_BYTES = 32
 MAX_OPERATIONS = 256
 MAX_SESSIONS = 64

@@ -23,6 +23,7 @@ import tempfile
 
 TOP = pathlib.Path(__file__).resolve().parent.parent.parent
 sys.path.insert(0, str(TOP / "tests"))
+import limits  # noqa: E402
 from claims import altered, claims, order_text, own_claim, runs_of  # noqa: E402
 from counted import status_of  # noqa: E402
 from machine import processors  # noqa: E402
@@ -59,8 +60,12 @@ FIRST_LINES = {"causal": b"tcc-certificate 1", "atomic": b"tcc-certificate 1 ato
 LEVELS = ("causal", "atomic")
 SMALL, ANY = (1, 2), (1, 2, 3)
 ALTERED = 8
-# Sessions of aborted transactions alone: more than the small limits have room for, and of no other weight.
-MANY_SESSIONS = "".join("%s%d,begin\n%s%d,abort\n" % (2 * (name, number)) for name in "0z" for number in range(33))
+
+
+def many_sessions(tcc):
+    """Sessions of aborted transactions alone, of no other weight: before and after all others, and more than a small history has."""
+    half = limits.asked(tcc)["default"]["sessions"] // 2 + 1
+    return "".join("%s%d,begin\n%s%d,abort\n" % (2 * (name, number)) for name in "0z" for number in range(half))
 
 
 def written(tcc, records, level, folder, *more):
@@ -127,7 +132,7 @@ class Judge:
 def with_digits(tcc, folder, pool):
     """The altered texts of the examples."""
     for records, level, version in ASKED:
-        records += MANY_SESSIONS if version == 3 else ""
+        records += many_sessions(tcc) if version == 3 else ""
         judge = Judge(tcc, records, ANY if version == 3 else SMALL, folder, pool)
         text = own_claim(judge.history, level) if version == 3 else written(tcc, records, level, folder)[1]
         if version == 1:
@@ -140,7 +145,7 @@ def of_random(tcc, number, dice, folder, pool):
     """The claims of a random history, as they are and altered, and what is written of it past the small limits."""
     records = text_of(small_history(dice, 10))
     if dice.random() < 0.5:
-        records += MANY_SESSIONS
+        records += many_sessions(tcc)
     judge = Judge(tcc, records, ANY, folder, pool)
     for level in LEVELS:
         cases = [("%s, %s" % (what, done), other) for what, text in claims(judge.history, level, dice)
@@ -151,7 +156,7 @@ def of_random(tcc, number, dice, folder, pool):
 
 def wrongly_written(tcc, judge, level, folder):
     """What is wrong with what is written of a history past the small limits, or None."""
-    records = judge.records + ("" if MANY_SESSIONS in judge.records else MANY_SESSIONS)
+    records = judge.records + ("" if many_sessions(tcc) in judge.records else many_sessions(tcc))
     past = Judge(tcc, records, ANY, folder, judge.pool)
     answer, text = written(tcc, records, level, folder, "--large")
     order, least = past.history.first_order(level), past.history.least_cost(level)

@@ -81,13 +81,14 @@ LEVELS = (ast.Module, ast.ClassDef, ast.FunctionDef)
 ELSEWHERE = {"Vec", "String", "Option", "Result", "Ordering", "Rattle"}
 MADE = re.compile(r"(?:history|names|places|records|answer|client-|certificate)\S*|store/|.*\bNAME\b.*|.*\bout/.*")
 COMPLETED = (
-    ("tcc ", "explain survey watch check help --help --version"),
+    ("tcc ", "explain survey watch check limits help --help --version"),
     ("tcc ex", "explain"),
     ("tcc explain --level ", "causal atomic"),
     ("tcc explain --level = at", "atomic"),
     ("tcc explain --j", "--json"),
     ("tcc explain --certificate ", ""),
     ("tcc check h", ""),
+    ("tcc limits --", "--json --help"),
     ("tcc help c", "check"),
 )
 COMPLETING = """source docs/tcc.bash; read -ra COMP_WORDS <<< "$1"; [[ $1 == *" " ]] && COMP_WORDS+=("")

@@ -55,13 +55,9 @@ HELD = {
         "that is at {MAX_TRANSACTIONS} transactions, aborted ones counted",
         "There are at most {MAX_SESSIONS}, each name once", "`TooManySessions` that {MAX_SESSIONS} are open"),
     "docs/FORMATS.md": (
-        "names: 1 to {MAX_NAME_BYTES} bytes",
-        "TooManySessions at a {LARGE_SESSIONS+1}th session, TooManyTransactions at transaction {LARGE_TRANSACTIONS+1}, TooManyKeys "
-        "at a {LARGE_KEYS+1}th key, TooManySeals at `seal` number {LARGE_SEALS+1}, and Read after {LARGE_INPUT_BYTES} bytes",
-        "but a {MAX_SEALS+1}th is TooManySeals"),
+        "names: 1 to {MAX_NAME_BYTES} bytes", "but a {MAX_SEALS+1}th is TooManySeals"),
     "docs/tcc.1": ("names: 1 to {MAX_NAME_BYTES} bytes", "N threads, 1 to {MAX_WORKERS}, order"),
     "docs/HEADLINE.md": ("`Workers`, a type of 1 to {MAX_WORKERS}",),
-    "docs/GLOSSARY.md": ("without `--large`: {MAX_SESSIONS} sessions, {MAX_TRANSACTIONS} transactions,",),
     "docs/MODEL.md": ("more than {MAX_TRANSACTIONS} transactions, or those of more than {MAX_SESSIONS} sessions",),
     "crates/tcc_cli/src/command_line.rt": (
         "so many threads, 1 to {!MAX_WORKERS};", "Takes up to {!LARGE_TRANSACTIONS} transactions of {!LARGE_SESSIONS} sessions"),
@@ -72,7 +68,8 @@ HELD = {
         "more than {!MAX_INPUT_BYTES} bytes, with '--large' {!LARGE_INPUT_BYTES},",
         "HISTORY has up to {!LARGE_TRANSACTIONS} transactions, {!LARGE_SESSIONS} sessions and {!LARGE_KEYS} keys",
         "the history has more than {!MAX_INPUT_BYTES} bytes, with '--large' {!LARGE_INPUT_BYTES},",
-        "the input has more than {!LARGE_INPUT_BYTES} bytes, or a file"),
+        "the input has more than {!LARGE_INPUT_BYTES} bytes, or a file",
+        "tcc limits --json | jq .large.transactions\n  {!LARGE_TRANSACTIONS}"),
 }
 
 
@@ -118,7 +115,7 @@ def of_package() -> str:
     lines = "".join("%s = %d\n" % pair for pair in limits().items() if not pair[0].endswith("_COUNT"))
     tables = "".join('%s = {"sessions": %s_SESSIONS, "transactions": %s_TRANSACTIONS, "keys": %s_KEYS, "operations in a transaction": MAX_OPERATIONS}\n' % (
         name, of, of, of) for name, of in (("DEFAULT", "MAX"), ("LARGE", "LARGE")))
-    return '"""The limits of `tcc`, which tests/docs/told.py --write writes from its sources."""\n' + lines + "# By what they are of: by default, and with --large.\n" + tables
+    return '"""What `tcc limits` prints, which tests/docs/told.py --write writes from the sources."""\n' + lines + "# By what they are of: by default, and with --large.\n" + tables
 
 
 # A file, what comes before and after a part of it, and how the part reads.

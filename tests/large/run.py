@@ -14,9 +14,9 @@ as the least: of those sizes it has to be all, of others it may be fewer.
 `tcc explain --large` is given each history with an anomaly too, with so many sessions more that it is a large one. They neither read
 nor write, so it has to say the same, link for link.
 
-So it has to of random histories of two to eight sessions, beside 65 sessions whose transactions were aborted. What it prints has to be
-the same, byte for byte, but for the count of sessions. Enough of these histories have to be anomalies, and some of them of five steps
-or more.
+So it has to of random histories of two to eight sessions, beside so many sessions whose transactions were aborted. What it prints has
+to be the same, byte for byte, but for the count of sessions. Enough of these histories have to be anomalies, and some of them of five
+steps or more.
 
 Each difference is one line; the last line is `N passed, M failed`.
 """
@@ -32,6 +32,7 @@ import tempfile
 TOP = pathlib.Path(__file__).resolve().parent.parent.parent
 sys.path[:0] = [str(TOP / "bench"), str(TOP / "tests")]
 import drawn  # noqa: E402
+import limits  # noqa: E402
 from compared import first_difference  # noqa: E402
 from histories import KINDS, text_of  # noqa: E402
 
@@ -39,8 +40,7 @@ LEVELS = ("causal", "atomic")
 SECONDS = 600
 # Of these sizes each cycle that is found is a least one.
 LEAST_SIZES = (255, 1023)
-# So many sessions are past the small limits, whatever others there are. Up to so many steps what is decided is the first anomaly.
-MORE_SESSIONS = 65
+# Up to so many steps what is decided is the first anomaly.
 FIRST_STEPS = 3
 # So many random histories take some 20 seconds. Each is judged at both levels: of these answers one part has to be anomalies, and
 # another part anomalies of at least so many steps.
@@ -76,9 +76,14 @@ def small_answer(tcc, history, level):
     return "cycle", answer["steps"], text
 
 
-def with_more_sessions(records, end="commit"):
+def sessions_above(tcc):
+    """How many sessions are above the default limit, whatever others there are."""
+    return limits.asked(tcc)["default"]["sessions"] + 1
+
+
+def with_more_sessions(tcc, records, end="commit"):
     """The same records, and after them those of sessions that neither read nor write."""
-    return records + "".join("zzz%02d,begin\nzzz%02d,%s\n" % (number, number, end) for number in range(MORE_SESSIONS))
+    return records + "".join("zzz%02d,begin\nzzz%02d,%s\n" % (number, number, end) for number in range(sessions_above(tcc)))
 
 
 def answered(tcc, words, level, records):
@@ -97,8 +102,8 @@ def random_differences(tcc, count, seed):
         records, sessions = drawn.text_of(history), len({one.session for one in history})
         for level in LEVELS:
             status, small = answered(tcc, AS_SMALL, level, records)
-            got, large = answered(tcc, ["--large"], level, with_more_sessions(records, "abort"))
-            wanted = small.replace(b'"sessions":%d,' % sessions, b'"sessions":%d,' % (sessions + MORE_SESSIONS))
+            got, large = answered(tcc, ["--large"], level, with_more_sessions(tcc, records, "abort"))
+            wanted = small.replace(b'"sessions":%d,' % sessions, b'"sessions":%d,' % (sessions + sessions_above(tcc)))
             wrong = first_difference("answer", wanted, large) or (None if status == got else "status %d, and %d as a large one" % (status, got))
             steps = json.loads(small)["steps"] if status == 1 else 0
             yield "random history %d at %s" % (number, level), steps, wrong if status in (0, 1) else "status %d" % status
@@ -155,7 +160,7 @@ def main():
             for size in asked.sizes:
                 history.write_text(text_of(kind, size))
                 more = pathlib.Path(folder, "more.csv")
-                more.write_text(with_more_sessions(text_of(kind, size)))
+                more.write_text(with_more_sessions(asked.tcc, text_of(kind, size)))
                 for level in LEVELS:
                     small, large = small_answer(asked.tcc, history, level), large_answer(asked.stages, history, level)
                     wrong = difference(small, large)

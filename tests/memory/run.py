@@ -28,7 +28,7 @@ HERE = pathlib.Path(__file__).resolve().parent
 TOP = HERE.parent.parent
 sys.path.insert(0, str(TOP / "tests"))
 from counted import status_of  # noqa: E402
-from limits import of_answer  # noqa: E402
+from limits import of_answer, of_program  # noqa: E402
 
 MEMORY = b"memory\n"
 JSON_MEMORY = b'{"answer":"memory"}\n'
@@ -133,7 +133,7 @@ SURVEYED = [b"contradicted a/2 op 1 x 0: knew of a/1, read your writes\n", b"rea
 SURVEYED_FAULTS = [b"unresolved: 2 faults\nAborted b/1 op 1 x 1\nThinAir b/1 op 2 z 7\n", b"0 contradicted reads of 0, 2 faults\n"]
 SURVEYED_JSON = [b'{"contradicted":"a/2","key":"x","name":"read your writes","op":1,"value":0,"writer":"a/1"}\n',
                  b'{"count":1,"name":"read your writes"}\n', b'{"answer":"survey","contradicted":1,"faults":0,"reads":1}\n']
-SMALL_LIMITS, LARGE_LIMITS = (json.dumps(of_answer(large), separators=(",", ":")).encode() for large in (False, True))
+SMALL_LIMITS, LARGE_LIMITS, ALL_LIMITS = (json.dumps(one, separators=(",", ":")).encode() for one in (of_answer(False), of_answer(True), of_program()))
 
 
 def full(form, large=False):
@@ -157,6 +157,19 @@ FULL_FAULTS = b'{"answer":"unresolved","faults":[\
 "limits":LIMITS,"sessions":2,"status":2,"transactions":1,"version":"0.1.0"}'
 FULL_ROW = b'{"answer":"none","fault":{"answer":"row","kind":"FieldCount","row":1},"large":LARGE,"level":"causal","limits":LIMITS,\
 "status":3,"version":"0.1.0"}'
+# The limits as a table: what each is of, its key, and in which object it is.
+LIMITED = (("sessions", "sessions"), ("transactions", "transactions"), ("operations of a transaction", "operations"), ("keys", "keys"),
+           ("seals", "seals"), ("bytes", "bytes"), ("bytes of a name", "name_bytes"), ("workers", "workers"))
+
+
+def limits_table():
+    """The table of `tcc limits`."""
+    known = of_program()
+    most = [[{**known, **known[which]}[key] for which in ("default", "large")] for _, key in LIMITED]
+    lines = ["%-28s%12d%14d\n" % (about, *both) for (about, _), both in zip(LIMITED, most)]
+    return ("%-28s%12s%14s\n" % ("at most", "by default", "with --large") + "".join(lines)).encode()
+
+
 FILES = {"certificate": FORK_CERTIFICATE, "two-stale-reads": TWO_STALE_READS, "large-order": LARGE_ORDER, "large-cycle": LARGE_CYCLE,
          "past": PAST, "five": FIVE, "five-certificate": FIVE_CERTIFICATE, "three-fields": THREE_FIELDS}
 # The file of standard input, or none; the words after `tcc`, the answers, and the status. `@NAME` is one of these files.
@@ -200,6 +213,8 @@ ANSWERS = [
     (EXAMPLES / "aborted-read.csv", ["explain", "--full"], full(FULL_FAULTS), 2),
     ("@three-fields", ["explain", "--full"], full(FULL_ROW), 3),
     ("@past", ["explain", "--full", "--large"], full(LARGE_FULL_STALE, True), 1),
+    (None, ["limits"], limits_table(), 0),
+    (None, ["limits", "--json"], ALL_LIMITS + b"\n", 0),
 ]
 # The same, by one worker and by two.
 SEARCHES = [(STALE, STALE_READ, 1), (FORK, FORK_ORDER, 0), ("@two-stale-reads", STALE_READ, 1)]

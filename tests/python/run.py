@@ -11,6 +11,7 @@ last line is `N passed, M failed`.
 import json
 import os
 import pathlib
+import runpy
 import shutil
 import signal
 import subprocess
@@ -36,6 +37,7 @@ import working  # noqa: E402
 from arguments import status_on_tcc  # noqa: E402
 from counted import Outcome, guarded  # noqa: E402
 from helpers import SECONDS, TOP, Broken, Refused, differs, ended, raises, run  # noqa: E402
+from limits import asked  # noqa: E402
 
 PACKAGE = TOP / "python"
 COMMANDS = ["tcc-all", "tcc-edn", "tcc-full", "tcc-jepsen", "tcc-join", "tcc-look", "tcc-picture", "tcc-places", "tcc-report", "tcc-sessions",
@@ -375,6 +377,19 @@ def same_version(tcc: List[str]) -> Iterator[Outcome]:
     yield "version", None if shown and 'version = "%s"' % shown[-1] in text else "the program's is %s" % shown
 
 
+def same_limits(tcc: List[str]) -> Iterator[Outcome]:
+    """The package has the limits of the program, by the names of its constants."""
+    known = runpy.run_path(str(PACKAGE / "tcc/limits.py"))
+    told = asked(*tcc)
+    wanted = {"MAX_NAME_BYTES": told["name_bytes"], "MAX_OPERATIONS": told["default"]["operations"], "MAX_WORKERS": told["workers"]}
+    for name, which in (("MAX", "default"), ("LARGE", "large")):
+        others = {key: value for key, value in told[which].items() if key != "operations"}
+        wanted.update(("%s_%s" % (name, "INPUT_BYTES" if key == "bytes" else key.upper()), value) for key, value in others.items())
+        table = {key: told[which][key] for key in ("sessions", "transactions", "keys")}
+        yield differs("limits of the package, %s" % which, {**table, "operations in a transaction": told[which]["operations"]}, known[which.upper()])
+    yield differs("limits of the package", wanted, {name: value for name, value in known.items() if isinstance(value, int)})
+
+
 def outcomes(tcc: List[str]) -> Iterator[Outcome]:
     sys.path.insert(0, str(PACKAGE))
     yield from patterns.outcomes()
@@ -383,6 +398,7 @@ def outcomes(tcc: List[str]) -> Iterator[Outcome]:
     sys.path.remove(str(PACKAGE))
     yield from types()
     yield from same_version(tcc)
+    yield from guarded("limits of the package", same_limits(tcc))
     if subprocess.run([sys.executable, "-m", "pip", "--version"], capture_output=True, check=False).returncode:
         print("the package: passed over: no pip")
         return

@@ -13,8 +13,8 @@ use std::time::Clock;
 use tcc_base::Workers;
 use tcc_cli::{
     ErrorReporter, OutputFile, Quiet, RecordInput, Request, VERSION, are_waited_for, check_files,
-    exit_code, is_waited_for, open_both, open_input, open_output, open_outputs, print_unopened,
-    read, size_of,
+    exit_code, is_waited_for, open_both, open_input, open_output, open_outputs, print_limits,
+    print_unopened, read, size_of,
 };
 use tcc_full::{Limits, ReportOptions, RunContext, run_full, tell_unread};
 use tcc_run::{OpenGate, Options, run_explain, run_large};
@@ -349,6 +349,7 @@ fn main(rt: HostRuntime) -> ExitCode {
                 check_files(&rt, history, certificate, false, &mut out)
             }
         }
+        Ok(Request::Limits { json }) => print_limits(rt.alloc(), json, &mut out),
         Err(code) => code,
     };
     exit_code(&rt, code)

@@ -2,3 +2,4 @@ pub mod Parsing
 pub mod PlainCommands
 pub mod WorkedCheckerLines
 pub mod WorkedCommandLines
+mod WorkedLimits

@@ -150,6 +150,19 @@ watch_read : (faults (codes "watch" ∷ watch_line) ≡ []) × (watch_asks watch
 unfolding clap_on_literals
 watch_read = (refl, refl)
 
+-- ---- limits
+
+-- what is read after it: the subcommand that was met, and the flag
+abbrev limits_asks : List Text → Option Text × Option Text
+limits_asks words =
+    let met = subcommand_of program (codes "tcc" ∷ codes "limits" ∷ words) in
+    (option_map (λ entered. entered.0) met, flag_text (codes "json") met)
+
+limits_read : (faults (codes "limits" ∷ []) ≡ []) × (limits_asks [] ≡ (Some (codes "limits"), Some (codes "false")))
+    × (faults (codes "limits" ∷ codes "--json" ∷ []) ≡ []) × (limits_asks (codes "--json" ∷ []) ≡ (Some (codes "limits"), Some (codes "true")))
+unfolding clap_on_literals
+limits_read = (refl, refl, refl, refl)
+
 -- ---- check, of whichever program
 
 abbrev check_line : List Text
@@ -221,6 +234,9 @@ faulty_lines =
     ∷ (codes "explain" ∷ codes "--colour" ∷ [], UnknownArgument ∷ [])
     -- a watch takes no certificate
     ∷ (codes "watch" ∷ codes "--certificate=c.txt" ∷ [], UnknownArgument ∷ [])
+    -- the limits are of no file, and are printed whole
+    ∷ (codes "limits" ∷ codes "x" ∷ [], UnknownArgument ∷ [])
+    ∷ (codes "limits" ∷ codes "--large" ∷ [], UnknownArgument ∷ [])
     -- the workers are a number from 1 to 32
     ∷ (codes "explain" ∷ codes "--workers" ∷ codes "0" ∷ [], ValueValidation ∷ [])
     ∷ (codes "explain" ∷ codes "--workers=33" ∷ [], ValueValidation ∷ [])

@@ -17,7 +17,7 @@ use Rattle.clap.specs.declared.error.kind.ErrorKind.{ErrorKind}
 use Rattle.clap.specs.declared.error.kind.ErrorKind.TheVariants.{ArgumentConflict, DisplayHelp, DisplayVersion, OutOfMemory}
 use Rattle.tcc_cli.specs.declared.command_line.Files.{Files}
 use Rattle.tcc_cli.specs.declared.command_line.Request.{Request}
-use Rattle.tcc_cli.specs.declared.command_line.Request.TheVariants.{Explain, Survey, Watch, Check}
+use Rattle.tcc_cli.specs.declared.command_line.Request.TheVariants.{Explain, Survey, Watch, Check, Limits}
 use Rattle.tcc_graph.specs.declared.level.Level.{Level}
 use Rattle.tcc_graph.specs.declared.level.Level.TheVariants.{Causal, Atomic}
 use Rattle.tcc_print.specs.declared.status.Status.TheVariants.{Success, Memory, Usage}
@@ -106,13 +106,16 @@ check_command =
     let sized : App = with_rule (new_app (codes "check")) (flag (codes "large")) in
     with_rule (with_rule sized (path (codes "history") true)) (path (codes "certificate") true)
 
--- tcc explain [OPTIONS] [FILE], tcc survey [OPTIONS] [FILE], tcc watch [OPTIONS] [FILE], or tcc check [--large] HISTORY CERTIFICATE: the
--- program's name and version, and its subcommands, one of which has to be given
+-- limits [--json]
+abbrev pub limits_command : App
+limits_command = with_rule (new_app (codes "limits")) (flag (codes "json"))
+
+-- tcc with one of these subcommands, which has to be given; the program has a name and a version
 abbrev pub tcc_command : Words → App
 tcc_command levels =
     let named : App = on_top with_subcommand_required (on_top with_version (new_app (codes "tcc"))) in
     let asked : App = with_subcommand (with_subcommand named (explain_command levels).top) (survey_command levels).top in
-    with_subcommand (with_subcommand asked (watch_command levels).top) check_command.top
+    with_subcommand (with_subcommand (with_subcommand asked (watch_command levels).top) check_command.top) limits_command.top
 
 -- what clap reads of a flag in the matches of a subcommand that was met
 abbrev pub flag_text : Text → Option (Text × List Row) → Option Text
@@ -188,6 +191,7 @@ AsksExplain met (Explain options history certificate large slice quiet full) =
 AsksExplain met (Survey level json large history) = ⊥
 AsksExplain met (Watch level json history) = ⊥
 AsksExplain met (Check files) = ⊥
+AsksExplain met (Limits json) = ⊥
 
 -- the list is in lines of JSON and within the large limits by the flags, at the level of the word; the records are those of the file
 abbrev pub AsksSurvey : Option (Text × List Row) → Request → Type 0
@@ -197,6 +201,7 @@ AsksSurvey met (Survey level json large history) =
 AsksSurvey met (Explain options history certificate large slice quiet full) = ⊥
 AsksSurvey met (Watch level json history) = ⊥
 AsksSurvey met (Check files) = ⊥
+AsksSurvey met (Limits json) = ⊥
 
 -- each answer is a line of JSON by the flag, at the level of the word; the records are those of the file
 abbrev pub AsksWatch : Option (Text × List Row) → Request → Type 0
@@ -205,6 +210,15 @@ AsksWatch met (Watch level json history) =
 AsksWatch met (Explain options history certificate large slice quiet full) = ⊥
 AsksWatch met (Survey level json large history) = ⊥
 AsksWatch met (Check files) = ⊥
+AsksWatch met (Limits json) = ⊥
+
+-- the limits are a line of JSON by the flag
+abbrev pub AsksLimits : Option (Text × List Row) → Request → Type 0
+AsksLimits met (Limits json) = IsFlag (flag_text (codes "json") met) json
+AsksLimits met (Explain options history certificate large slice quiet full) = ⊥
+AsksLimits met (Survey level json large history) = ⊥
+AsksLimits met (Watch level json history) = ⊥
+AsksLimits met (Check files) = ⊥
 
 -- the paths are those that clap finds, and it is within the large limits by the flag
 abbrev pub AsksFiles : List Row → Files → Type 0
@@ -212,14 +226,17 @@ AsksFiles rows files =
     (first_of (codes "history") rows ≡ Some (string_bytes files.history)) × (first_of (codes "certificate") rows ≡ Some (string_bytes files.certificate))
     × IsFlag (one_of (codes "large") rows) files.large
 
--- what the subcommand that was met asks for: a check by its name with its two paths; a survey or a watch by its name; else answers
+-- what the subcommand that was met asks for: a check by its name with its two paths; a survey, a watch or the limits by its name; else
+-- answers
 abbrev pub AsksBy : Option (Text × List Row) → Request → Type 0
 AsksBy met (Explain options history certificate large slice quiet full) =
     (option_map (λ entered. entered.0) met ≢ Some (codes "check")) × (option_map (λ entered. entered.0) met ≢ Some (codes "survey"))
-    × (option_map (λ entered. entered.0) met ≢ Some (codes "watch")) × AsksExplain met (Explain options history certificate large slice quiet full)
+    × (option_map (λ entered. entered.0) met ≢ Some (codes "watch")) × (option_map (λ entered. entered.0) met ≢ Some (codes "limits"))
+    × AsksExplain met (Explain options history certificate large slice quiet full)
 AsksBy met (Survey level json large history) =
     (option_map (λ entered. entered.0) met ≡ Some (codes "survey")) × AsksSurvey met (Survey level json large history)
 AsksBy met (Watch level json history) = (option_map (λ entered. entered.0) met ≡ Some (codes "watch")) × AsksWatch met (Watch level json history)
+AsksBy met (Limits json) = (option_map (λ entered. entered.0) met ≡ Some (codes "limits")) × AsksLimits met (Limits json)
 AsksBy None (Check files) = ⊥
 AsksBy (Some entered) (Check files) = (entered.0 ≡ codes "check") × AsksFiles entered.1 files
 
@@ -234,6 +251,7 @@ GoesTogether (Explain options history certificate large slice quiet full) =
 GoesTogether (Survey level json large history) = Unit {0}
 GoesTogether (Watch level json history) = Unit {0}
 GoesTogether (Check files) = Unit {0}
+GoesTogether (Limits json) = Unit {0}
 
 -- a text, or the line `memory` in its place, is written with its status
 abbrev pub PrintsHelp : Option (List ℕ) → Option (List ℕ) → ℕ → Type 0

@@ -4,3 +4,4 @@ pub mod Files
 pub mod FileIds
 pub mod Opened
 pub mod HandedOn
+pub mod Limits

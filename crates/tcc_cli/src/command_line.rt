@@ -5,7 +5,7 @@ ghost use Rattle.clap.specs.Words.{FailsBy, IsUnsignedIn, app_of, fault_of, foun
 ghost use Rattle.clap.specs.declared.error.kind.ErrorKind.TheVariants.{OutOfMemory};
 ghost use Rattle.tcc_graph.specs.declared.level.Level.{Level};
 ghost use Rattle.tcc_base.specs.declared.workers.TheConstants.{MAX_WORKERS};
-ghost use Rattle.tcc_cli.specs.CommandLines.{Asks, AsksBy, AsksExplain, AsksFiles, AsksSurvey, AsksWatch, EndsUnasked, GoesTogether, IsAsked, IsFlag, IsInput, IsRequired, WasAsked, IsLevel, IsWorkers, PrintsHelp, SaysWorkers, certificate_option, check_command, explain_command, flag, flag_text, level_option, level_text, level_word, option_text, history_path, require_option, required_text, slice_option, survey_command, watch_command, path, path_option, tcc_command, valued_option, workers_option, workers_text};
+ghost use Rattle.tcc_cli.specs.CommandLines.{Asks, AsksBy, AsksExplain, AsksFiles, AsksLimits, AsksSurvey, AsksWatch, EndsUnasked, GoesTogether, IsAsked, IsFlag, IsInput, IsRequired, WasAsked, IsLevel, IsWorkers, PrintsHelp, SaysWorkers, certificate_option, check_command, explain_command, flag, flag_text, level_option, level_text, level_word, option_text, history_path, limits_command, require_option, required_text, slice_option, survey_command, watch_command, path, path_option, tcc_command, valued_option, workers_option, workers_text};
 
 use crate::help;
 use clap::builder::ValueParser;
@@ -61,6 +61,11 @@ pub enum Request {
     },
     /// Judge a certificate for a history.
     Check(Files),
+    /// Print the limits.
+    Limits {
+        /// Whether a line of JSON is wanted.
+        json: bool,
+    },
 }
 
 /// The two files that a check is asked for.
@@ -298,6 +303,17 @@ fn watch_command<'a>(alloc: Global, levels: &'a [&'a str]) -> Result<Command<'a>
         .arg(history)
 }
 
+/// The subcommand that prints the limits.
+fn limits_command<'a>(alloc: Global) -> Result<Command<'a>, AllocError>
+    ensures { IfOk result (λ made. app_of made ≡ limits_command) }
+{
+    let json = flag(alloc, "json", "Prints one line of JSON");
+    Command::new(alloc, "limits")
+        .about("Prints the limits of a history, by default and with --large")
+        .after_help(help::LIMITS)
+        .arg(json)
+}
+
 /// The command by which words are read, with these words for levels.
 fn command<'a>(alloc: Global, levels: &'a [&'a str]) -> Result<Command<'a>, AllocError>
     ensures { IfOk result (λ made. app_of made ≡ tcc_command levels.entry) }
@@ -306,6 +322,7 @@ fn command<'a>(alloc: Global, levels: &'a [&'a str]) -> Result<Command<'a>, Allo
     let survey = survey_command(alloc, levels)?;
     let watch = watch_command(alloc, levels)?;
     let check = check_command(alloc)?;
+    let limits = limits_command(alloc)?;
     let tcc = Command::new(alloc, "tcc")
         .about("Checks and explains causal consistency of transaction histories")
         .after_help(help::COMMANDS)
@@ -314,7 +331,8 @@ fn command<'a>(alloc: Global, levels: &'a [&'a str]) -> Result<Command<'a>, Allo
         .subcommand(explain)?;
     let more = tcc.subcommand(survey)?;
     let most = more.subcommand(watch)?;
-    most.subcommand(check)
+    let checked = most.subcommand(check)?;
+    checked.subcommand(limits)
 }
 
 /// Whether a flag of the subcommand is set.
@@ -493,6 +511,14 @@ pub(crate) fn files_of(alloc: Global, matches: &ArgMatches) -> Result<Files, Err
     }
 }
 
+/// How the limits are wanted.
+fn limits_of(matches: &ArgMatches) -> Request
+    ensures { AsksLimits (subcommand_rows_of matches.now) result }
+{
+    let json = is_set(matches, "json");
+    Request::Limits { json }
+}
+
 /// What the matches ask for, by the subcommand that was met.
 fn asked_of(alloc: Global, matches: &ArgMatches) -> Result<Request, Error>
     ensures asked { IfOk result (AsksBy (subcommand_rows_of matches.now)) }
@@ -502,6 +528,7 @@ fn asked_of(alloc: Global, matches: &ArgMatches) -> Result<Request, Error>
         Some((name, check)) if name == "check" => Ok(Request::Check(files_of(alloc, check)?)),
         Some((name, _survey)) if name == "survey" => survey_of(alloc, matches),
         Some((name, _watch)) if name == "watch" => watch_of(alloc, matches),
+        Some((name, _limits)) if name == "limits" => Ok(limits_of(matches)),
         _ => options_of(alloc, matches),
     }
 }

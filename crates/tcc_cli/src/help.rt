@@ -6,7 +6,7 @@ pub const VERSION: &str = "0.1.0";
 /// Where the help on each command is.
 pub const COMMANDS: &str =
     "'tcc explain --help', 'tcc survey --help', 'tcc watch --help' and 'tcc check --help' show what is read, an
-example and the statuses.
+example and the statuses; 'tcc limits' prints how much may be read.
 'man tcc' says how to read an answer, README.md of the sources also how to record a history.";
 
 /// Where the help on the checker's command is.
@@ -107,6 +107,22 @@ Statuses, of the last answer or of the fault that ended the run:
   64  the command line is wrong
 
 'man tcc' says how to read an answer, docs/FORMATS.md of the sources has every text and every limit.";
+
+/// What the limits are of, and the statuses of their printing.
+pub const LIMITS: &str = "Counted is all that an input has, aborted transactions too.
+
+With '--json' the keys 'default' and 'large' each have an object, as 'tcc explain --full' has it: 'bytes', 'keys',
+'operations' (of a transaction), 'seals', 'sessions' and 'transactions'. 'name_bytes' and 'workers' are numbers.
+
+Example: how many transactions 'tcc explain --large' takes.
+  $ tcc limits --json | jq .large.transactions
+  16777215
+
+Statuses:
+  0   the limits were printed
+  5   out of memory
+  6   writing failed
+  64  the command line is wrong";
 
 /// The files, an example, and the statuses of a checked certificate.
 pub const CHECK: &str =

@@ -1,5 +1,5 @@
 //! The command lines of `tcc` and of the checker, and the files that they name: what the words ask for, which files are opened and made,
-//! and what is reported where one fails.
+//! and what is reported where one fails. What `tcc limits` prints is here too.
 #![tactic(auto)]
 
 mod checker;
@@ -9,6 +9,7 @@ mod ending;
 mod files;
 mod help;
 mod input;
+mod limits;
 mod opening;
 mod quiet;
 mod reporting;
@@ -21,6 +22,7 @@ pub use ending::exit_code;
 pub use files::{open_input, open_output, open_outputs, print_unopened};
 pub use help::VERSION;
 pub use input::RecordInput;
+pub use limits::print_limits;
 pub use opening::OutputFile;
 pub use quiet::Quiet;
 pub use reporting::ErrorReporter;
