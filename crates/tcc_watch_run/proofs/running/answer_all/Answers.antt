@@ -12,7 +12,7 @@ use Rattle.tcc_watch_run.proofs.running.answer_all.Goals as goal
 
 pub checkpoints-init : goal.checkpoints-init
 checkpoints-init g c = record {
-  way = λ text recording. none-answered g.R.Read.remaining (course c.args.run.now.options.now (checkpoints_of text)) text c.args.recording.now
+  way = λ text recording. none-answered g.R.Read.remaining (course g.A.Answerer.is_quiet c.args.run.now.options.now (checkpoints_of text)) text c.args.recording.now
       (g.W.Write.contents c.args.out.now) recording;
   within = λ records within. within;
   going = λ none. none;
@@ -27,12 +27,12 @@ checkpoints-preserved g c = record {
       goes-on way c.advance.new.self c.in-Ok.checkpoint c.in-Ok.ensures.checkpoint
       c.snapshot.result.now c.snapshot.ensures.finished _ c.in-Seal.is c.in_ok-said-in-Ok.said
       (c.in_ok-said-in-Ok.ensures.said (checkpoints_of text)
-      (knows_at g.R.Read.remaining c.args.run.now.options.now text c.checkpoints.recording _ _ c.checkpoints.last way c.advance.new.self c.in-Ok.checkpoint
+      (knows_at g.R.Read.remaining g.A.Answerer.is_quiet c.args.run.now.options.now text c.checkpoints.recording _ _ c.checkpoints.last way c.advance.new.self c.in-Ok.checkpoint
       c.in-Ok.ensures.checkpoint c.snapshot.result.now c.snapshot.ensures.finished));
   within = λ records within. c.in-Ok.ensures.within records (c.checkpoints.invariant.within records within);
   going = λ none. c.in-Ok.ensures.goes_on;
   following = c.in_ok-said-in-Ok.ensures.follows;
-  nested = subst (IsNested c.answer_checkpoint.new.follower.watch) c.snapshot.ensures.value c.in_ok-said-in-Ok.ensures.nests;
+  nested = subst (IsNested (g.A.Answerer.follower c.answer_checkpoint.new.answerer).watch) c.snapshot.ensures.value c.in_ok-said-in-Ok.ensures.nests;
 }
 
 pub returns-in_err-said-in-Ok : goal.returns-in_err-said-in-Ok
@@ -41,7 +41,7 @@ returns-in_err-said-in-Ok g c text recording within fresh =
     ends-there way c.advance.new.self c.in-Ok.checkpoint c.in-Ok.ensures.checkpoint
     c.snapshot.result.now c.snapshot.ensures.finished _ c.from_residual.result c.in_err-said-in-Ok.field-0.0 c.from_residual.ensures.1
     (c.in_err-said-in-Ok.ensures.said (checkpoints_of text)
-    (knows_at g.R.Read.remaining c.args.run.now.options.now text c.checkpoints.recording _ _ c.checkpoints.last way c.advance.new.self c.in-Ok.checkpoint
+    (knows_at g.R.Read.remaining g.A.Answerer.is_quiet c.args.run.now.options.now text c.checkpoints.recording _ _ c.checkpoints.last way c.advance.new.self c.in-Ok.checkpoint
     c.in-Ok.ensures.checkpoint c.snapshot.result.now c.snapshot.ensures.finished))
 
 pub returns-in-End : goal.returns-in-End
@@ -50,23 +50,23 @@ returns-in-End g c text recording within fresh =
     has-ended way c.advance.new.self c.in-Ok.checkpoint c.in-Ok.ensures.checkpoint
     c.snapshot.result.now c.snapshot.ensures.finished _ c.in-End.is c.in_ok-said-in-Ok.said
     (c.in_ok-said-in-Ok.ensures.said (checkpoints_of text)
-    (knows_at g.R.Read.remaining c.args.run.now.options.now text c.checkpoints.recording _ _ c.checkpoints.last way c.advance.new.self c.in-Ok.checkpoint
+    (knows_at g.R.Read.remaining g.A.Answerer.is_quiet c.args.run.now.options.now text c.checkpoints.recording _ _ c.checkpoints.last way c.advance.new.self c.in-Ok.checkpoint
     c.in-Ok.ensures.checkpoint c.snapshot.result.now c.snapshot.ensures.finished))
 
 pub returns-in-Err : goal.returns-in-Err
 returns-in-Err g c text recording within fresh =
-    ends-fault g.R.Read.remaining (course c.args.run.now.options.now (checkpoints_of text)) text
+    ends-fault g.R.Read.remaining (course g.A.Answerer.is_quiet c.args.run.now.options.now (checkpoints_of text)) text
     c.checkpoints.recording c.advance.new.self _ _ c.checkpoints.last (c.checkpoints.invariant.way text recording)
     c.in-Err.fault _ c.stop.result c.in-Err.ensures.checkpoint (c.checkpoints.invariant.within (records_of text) within)
     (c.in-Err.ensures.failed (c.checkpoints.invariant.going fresh)) c.stop.ensures.printed
 
 pub returns : goal.returns
 returns g c text recording within fresh =
-    wants_memory g.R.Read.remaining (course c.args.run.now.options.now (checkpoints_of text)) text
+    wants_memory g.R.Read.remaining (course g.A.Answerer.is_quiet c.args.run.now.options.now (checkpoints_of text)) text
     c.checkpoints.recording c.checkpoints.recording _ _ c.checkpoints.last (c.checkpoints.invariant.way text recording) _
     c.print_endless.result c.print_endless.ensures
 
 pub answer_checkpoint-requires-clause-nested : goal.answer_checkpoint-requires-clause-nested
 answer_checkpoint-requires-clause-nested g c κs within =
-    nested_on c.checkpoints.follower.watch c.checkpoints.recording.snapshot c.snapshot.result.now c.checkpoints.invariant.nested
+    nested_on (g.A.Answerer.follower c.checkpoints.answerer).watch c.checkpoints.recording.snapshot c.snapshot.result.now c.checkpoints.invariant.nested
     (subst (IsNested c.checkpoints.recording.snapshot) (sym c.snapshot.ensures.value) c.in-Ok.ensures.continues)
