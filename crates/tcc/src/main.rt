@@ -35,6 +35,7 @@ struct Paths<'a> {
 }
 
 /// The files at such paths.
+#[derive(Drop)]
 struct Files<'a> {
     certificate: Option<ErrorReporter<'a, OutputFile>>,
     slice: Option<ErrorReporter<'a, OutputFile>>,
@@ -51,10 +52,9 @@ fn run_shown<W: Write>(
     quiet: bool,
     out: &mut W,
 ) -> u8 {
-    let Files {
-        mut certificate,
-        mut slice,
-    } = files;
+    let Files { certificate, slice } = files;
+    let mut certificate = certificate;
+    let mut slice = slice;
     let mut notes = rt.stderr();
     let is_alone = certificate.is_none() && slice.is_none();
     let is_shown = is_waited_for(rt, input.stream());
@@ -96,7 +96,8 @@ fn explain_large<W: Write>(
     out: &mut W,
 ) -> u8 {
     match open_outputs(rt, paths.certificate, paths.slice, input.stream()) {
-        Ok((certificate, slice)) => {
+        Ok(files) => {
+            let (certificate, slice) = files;
             let files = Files { certificate, slice };
             run_shown(rt, threads, options, input, files, quiet, out)
         }

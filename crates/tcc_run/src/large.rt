@@ -11,5 +11,5 @@ mod slice_records;
 mod watching;
 
 pub use explained::{Explained, explain_large_snapshot};
-pub use running::{read_on, run_large};
+pub use running::run_large;
 pub use watching::{Stage, Watcher};

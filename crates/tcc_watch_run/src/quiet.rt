@@ -1,7 +1,10 @@
 //! The runs of `tcc explain --large --quiet`: seals are answered by a watch where that costs less.
-ghost use Rattle.std.specs.Prelude.{IfOk, IfSome};
+ghost use Rattle.std.specs.Prelude.{IfOk, IfSome, List, OnOk, true};
+ghost use Rattle.tcc_txn.specs.{Nested.IsNested, Snapshots.Sessions};
+ghost use Rattle.tcc_print.specs.{Courses.AreSaidFaults, Saying.IsTold};
 ghost use Rattle.tcc_watch_run.specs.Quiet.{IsQuietRun};
 ghost use Rattle.tcc_watch_run.specs.private.Following.{IsAtStart, IsFollowing};
+ghost use Rattle.tcc_watch_run.specs.private.Stages.{Knows, course, told_said};
 
 use crate::answering::Answerer;
 use crate::following::Follower;
@@ -20,8 +23,8 @@ use tcc_watch::Verdict;
 const WATCH_COST: usize = 3;
 
 /// What the answers of a run cost so far. A decision of a snapshot costs as much as the snapshot has transactions.
-#[derive(Clone, Copy, Drop)]
-struct Costs {
+#[derive(Clone, Copy)]
+pub(crate) struct Costs {
     /// What they cost.
     spent: usize,
     /// What they had cost, had each snapshot been decided by itself.
@@ -64,9 +67,9 @@ impl Costs {
 
 /// The answers of a quiet run: each snapshot is decided by itself, or a watch takes what is new.
 #[derive(Drop)]
-struct Quietly {
-    follower: Follower,
-    costs: Costs,
+pub(crate) struct Quietly {
+    pub follower: Follower,
+    pub costs: Costs,
 }
 
 impl Quietly {
@@ -84,25 +87,26 @@ impl Quietly {
             },
         })
     }
-}
 
-impl Answerer for Quietly {
-    ghost use Rattle.std.specs.Prelude.{true};
-
-    ghost is_quiet = { true };
-
-    ghost follower = { λ quietly. quietly.follower };
-
-    fn answer<T: Threads + Sync, G: Watcher>(
+    /// What is to be said quietly of the snapshot, where an anomaly was reported before or not.
+    pub(crate) fn answer<T: Threads + Sync, G: Watcher>(
         &mut self,
         run: &RunContext<T, G>,
         snapshot: &LargeSnapshot,
         has_told: bool,
-    ) -> Result<Told, NoMemory> {
+    ) -> Result<Told, NoMemory>
+        requires following { IsFollowing self.old.follower }
+        requires nested { IsNested self.old.follower.watch snapshot.now }
+        ensures told { (checkpoints : List Sessions) → Knows run.now.options.now checkpoints snapshot.now has_told
+            → IfOk result (IsTold (course true run.now.options.now checkpoints) snapshot.now) }
+        ensures faults { IfOk result (λ told. AreSaidFaults run.now.options.now (told_said told) told.faults.items) }
+        ensures follows { OnOk result (IsFollowing self.new.follower) }
+        ensures nests { OnOk result (IsNested self.new.follower.watch snapshot.now) }
+    {
         let transactions = snapshot.transactions();
+        // Nothing after an anomaly is consistent.
         let is_watched = !has_told && self.costs.allow_watch(transactions);
         self.costs.answer(transactions);
-        // Nothing after an anomaly is consistent.
         if !is_watched {
             self.costs.decide(transactions);
             return Told::anew(run, snapshot, has_told);
@@ -138,7 +142,7 @@ pub fn run_quiet<R: Read + Drop, W: Write, N: Write, G: Watcher>(
                 options: &options,
                 gate: watcher,
             };
-            run_reader(&run, quietly, reader, out, notes)
+            run_reader(&run, Answerer::Quiet(quietly), reader, out, notes)
         }
         Err(NoMemory) => print_memory(out, options.json),
     }

@@ -1,12 +1,13 @@
 //! From the bytes of records to what is said at each seal, and at the end.
-ghost use Rattle.std.specs.Prelude.{◌≡◌, ℕ, List, [], None, IfSome, MatchResult, OnOk};
-ghost use Rattle.tcc_rows.specs.{Ahead.fault_met, Reached.IsWithin, Recordings.IsRecording};
+ghost use Rattle.std.specs.Prelude.{◌≡◌, ℕ, Bool, List, [], None, IfErr, IfSome, MatchResult, OnOk};
+ghost use Rattle.tcc_rows.specs.{Ahead.fault_met, Answers.Answers, Answers.answers_to, Lines.Record, Reached.IsWithin, declared.rows.Item.Item};
+ghost use Rattle.tcc_rows.specs.Recordings.{FailsBehind, IsRecording, TakesCheckpoint, after_items};
 ghost use Rattle.tcc_txn.specs.{Nested.IsNested, Snapshots.Sessions, declared.limits.Limits.TheVariants.Large};
 ghost use Rattle.tcc_run.specs.LargeRuns.{answers_of, records_of};
 ghost use Rattle.tcc_print.specs.{Saying.SaysAt, private.Courses.AllAnswered, private.Courses.EndsEarly};
 ghost use Rattle.tcc_watch_run.specs.Watching.{IsWatchRun, checkpoints_of};
 ghost use Rattle.tcc_watch_run.specs.private.Following.{IsAtStart, IsFollowing};
-ghost use Rattle.tcc_watch_run.specs.private.Stages.{IsRunBy, KnowsLast, course, was_told};
+ghost use Rattle.tcc_watch_run.specs.private.Stages.{IsRunBy, KnowsLast, course, follower_of, is_quiet, was_told};
 
 use crate::answering::Answerer;
 use crate::following::Follower;
@@ -17,8 +18,8 @@ use std::io::{Read, Write};
 use std::thread::Threads;
 use tcc_print::printing::{print_endless, print_memory};
 use tcc_print::{Options, PreviousAnswer, RunContext, unchanged};
-use tcc_rows::{Checkpoint, LargeRecording};
-use tcc_run::{Watcher, read_on};
+use tcc_rows::{Checkpoint, LargeRecording, RowFault, RowFaultKind};
+use tcc_run::{Stage, Watcher};
 use tcc_txn::{LargeSnapshot, NoMemory};
 use tcc_verdict::stop;
 
@@ -34,21 +35,22 @@ fn was_told(last: &Option<PreviousAnswer<Told>>) -> bool
 
 /// Says at a checkpoint of the recording what is to be said of the snapshot, and returns it: what was said last, if nothing was finished
 /// since. An error is the code with which the run ends.
-fn answer_checkpoint<A: Answerer, T: Threads + Sync, W: Write, N: Write, G: Watcher>(
+fn answer_checkpoint<T: Threads + Sync, W: Write, N: Write, G: Watcher>(
     run: &RunContext<T, G>,
     checkpoint: Checkpoint,
-    answerer: &mut A,
+    answerer: &mut Answerer,
     snapshot: &LargeSnapshot,
     last: Option<PreviousAnswer<Told>>,
     out: &mut W,
     notes: &mut N,
 ) -> Result<PreviousAnswer<Told>, u8>
-    requires following { IsFollowing (A.follower answerer.old) }
-    requires nested { IsNested (A.follower answerer.old).watch snapshot.now }
-    ensures said { (checkpoints : List Sessions) → KnowsLast run.now.options.now checkpoints snapshot.now last
-        → SaysAt (course A.is_quiet run.now.options.now checkpoints) checkpoint snapshot.now last (W.contents out.old) (W.contents out.new) result }
-    ensures follows { OnOk result (IsFollowing (A.follower answerer.new)) }
-    ensures nests { OnOk result (IsNested (A.follower answerer.new).watch snapshot.now) }
+    requires following { IsFollowing (follower_of answerer.old) }
+    requires nested { IsNested (follower_of answerer.old).watch snapshot.now }
+    ensures said { (quiet : Bool) (checkpoints : List Sessions) → is_quiet answerer.old ≡ quiet → KnowsLast run.now.options.now checkpoints snapshot.now last
+        → SaysAt (course quiet run.now.options.now checkpoints) checkpoint snapshot.now last (W.contents out.old) (W.contents out.new) result }
+    ensures quiet { is_quiet answerer.new ≡ is_quiet answerer.old }
+    ensures follows { OnOk result (IsFollowing (follower_of answerer.new)) }
+    ensures nests { OnOk result (IsNested (follower_of answerer.new).watch snapshot.now) }
 {
     match unchanged(last, snapshot.transactions()) {
         Ok(last) => print_unchanged(run, checkpoint, snapshot, last, out, notes),
@@ -61,25 +63,46 @@ fn answer_checkpoint<A: Answerer, T: Threads + Sync, W: Write, N: Write, G: Watc
     }
 }
 
+/// Reads on to the next seal or to the end. The watcher is called when this begins and when it ends.
+fn read_on<R: Read + Drop, T, G: Watcher>(
+    run: &RunContext<T, G>,
+    recording: &mut LargeRecording<R>,
+) -> Result<Checkpoint, RowFault>
+    ensures checkpoint { (taken : List Item) (ahead : Answers) → IsRecording Large R.remaining recording.old taken ahead
+        → TakesCheckpoint Large R.remaining taken ahead result recording.new }
+    ensures within { (all : List Record) → IsWithin R.remaining recording.old.rows all → IsWithin R.remaining recording.new.rows all }
+    ensures continues { IsNested recording.old.snapshot recording.new.snapshot }
+    ensures failed { IfErr result (λ fault. fault_met recording.old.rows ≡ None → fault.kind ≡ RowFaultKind.Read
+        → (all : List Record) (taken : List Item) (ahead : Answers) → answers_to Large all ≡ after_items taken ahead
+        → IsWithin R.remaining recording.old.rows all → IsRecording Large R.remaining recording.old taken ahead
+        → FailsBehind Large taken fault.row all) }
+    ensures goes_on { OnOk result (fault_met recording.new.rows ≡ None) }
+{
+    run.gate.begin(Stage::Reading);
+    let checkpoint = recording.advance(run.alloc);
+    run.gate.end();
+    checkpoint
+}
+
 /// Says what is to be said at the seals that are still to come, and at the end, if it is due. It returns what was said last. Where the
 /// run ends before, it writes what ends it, and the error is the code with which it ends.
-fn answer_all<A: Answerer, R: Read + Drop, T: Threads + Sync, W: Write, N: Write, G: Watcher>(
+fn answer_all<R: Read + Drop, T: Threads + Sync, W: Write, N: Write, G: Watcher>(
     run: &RunContext<T, G>,
-    answerer: &mut A,
+    answerer: &mut Answerer,
     recording: &mut LargeRecording<R>,
     out: &mut W,
     notes: &mut N,
 ) -> Result<PreviousAnswer<Told>, u8>
-    requires following { IsFollowing (A.follower answerer.old) }
-    requires nested { IsNested (A.follower answerer.old).watch recording.old.snapshot }
+    requires following { IsFollowing (follower_of answerer.old) }
+    requires nested { IsNested (follower_of answerer.old).watch recording.old.snapshot }
     ensures { (bytes : List ℕ) → IsRecording Large R.remaining recording.old [] (answers_of bytes) → IsWithin R.remaining recording.old.rows (records_of bytes)
         → fault_met recording.old.rows ≡ None
-        → MatchResult result (AllAnswered (course A.is_quiet run.now.options.now (checkpoints_of bytes)) bytes (W.contents out.old) (W.contents out.new))
-        (EndsEarly (course A.is_quiet run.now.options.now (checkpoints_of bytes)) bytes (W.contents out.old) (W.contents out.new)) }
+        → MatchResult result (AllAnswered (course (is_quiet answerer.old) run.now.options.now (checkpoints_of bytes)) bytes (W.contents out.old) (W.contents out.new))
+        (EndsEarly (course (is_quiet answerer.old) run.now.options.now (checkpoints_of bytes)) bytes (W.contents out.old) (W.contents out.new)) }
 {
     let mut last: Option<PreviousAnswer<Told>> = None;
     'checkpoints: for _turn in 0..u64::MAX {
-        match read_on(run.alloc, recording, run.gate) {
+        match read_on(run, recording) {
             Ok(checkpoint) => {
                 let said = answer_checkpoint(
                     run,
@@ -106,7 +129,6 @@ fn answer_all<A: Answerer, R: Read + Drop, T: Threads + Sync, W: Write, N: Write
 /// The run of a recording that has just begun. Where the last history is consistent and has fewer transactions than are required, this is
 /// noted.
 fn run_recording<
-    A: Answerer,
     R: Read + Drop,
     T: Threads + Sync,
     W: Write,
@@ -114,16 +136,16 @@ fn run_recording<
     G: Watcher,
 >(
     run: &RunContext<T, G>,
-    answerer: &mut A,
+    answerer: &mut Answerer,
     recording: &mut LargeRecording<R>,
     out: &mut W,
     notes: &mut N,
 ) -> u8
-    requires following { IsFollowing (A.follower answerer.old) }
-    requires nested { IsNested (A.follower answerer.old).watch recording.old.snapshot }
+    requires following { IsFollowing (follower_of answerer.old) }
+    requires nested { IsNested (follower_of answerer.old).watch recording.old.snapshot }
     ensures { (bytes : List ℕ) → IsRecording Large R.remaining recording.old [] (answers_of bytes) → IsWithin R.remaining recording.old.rows (records_of bytes)
         → fault_met recording.old.rows ≡ None
-        → IsRunBy A.is_quiet run.now.options.now bytes (W.contents out.old) (W.contents out.new) result }
+        → IsRunBy (is_quiet answerer.old) run.now.options.now bytes (W.contents out.old) (W.contents out.new) result }
 {
     match answer_all(run, answerer, recording, out, notes) {
         Ok(last) => {
@@ -136,7 +158,6 @@ fn run_recording<
 
 /// The run of a reader's records, which are answered by what has taken nothing yet.
 pub(crate) fn run_reader<
-    A: Answerer,
     R: Read + Drop,
     T: Threads + Sync,
     W: Write,
@@ -144,14 +165,14 @@ pub(crate) fn run_reader<
     G: Watcher,
 >(
     run: &RunContext<T, G>,
-    answerer: A,
+    answerer: Answerer,
     reader: R,
     out: &mut W,
     notes: &mut N,
 ) -> u8
-    requires following { IsFollowing (A.follower answerer) }
-    requires start { IsAtStart (A.follower answerer) }
-    ensures { IfSome (R.remaining reader) (λ bytes. IsRunBy A.is_quiet run.now.options.now bytes (W.contents out.old) (W.contents out.new) result) }
+    requires following { IsFollowing (follower_of answerer) }
+    requires start { IsAtStart (follower_of answerer) }
+    ensures { IfSome (R.remaining reader) (λ bytes. IsRunBy (is_quiet answerer) run.now.options.now bytes (W.contents out.old) (W.contents out.new) result) }
 {
     match LargeRecording::new(run.alloc, reader) {
         Ok(recording) => {
@@ -187,7 +208,7 @@ pub fn run_watch<R: Read + Drop, W: Write, N: Write, G: Watcher>(
                 options: &options,
                 gate: watcher,
             };
-            run_reader(&run, follower, reader, out, notes)
+            run_reader(&run, Answerer::Watch(follower), reader, out, notes)
         }
         Err(NoMemory) => print_memory(out, options.json),
     }

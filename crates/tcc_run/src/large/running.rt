@@ -66,7 +66,7 @@ fn answer_checkpoint<T: Threads + Sync, W: Write, N: Write, G: Watcher>(
 }
 
 /// Reads on to the next seal or to the end; the watcher is called when this begins and when it ends.
-pub fn read_on<R: Read + Drop, G: Watcher>(
+fn read_on<R: Read + Drop, G: Watcher>(
     alloc: Global,
     recording: &mut LargeRecording<R>,
     watcher: &G,

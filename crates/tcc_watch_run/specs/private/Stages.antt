@@ -13,6 +13,9 @@ use Rattle.tcc_print.specs.declared.previous.PreviousAnswer.{PreviousAnswer}
 use Rattle.tcc_print.specs.declared.options.Options.{Options}
 use Rattle.tcc_watch_run.specs.Quiet.{IsQuietlySaid}
 use Rattle.tcc_watch_run.specs.Watching.{IsAnomaly, IsWatched, WasAnomaly, checkpoints_of}
+use Rattle.tcc_watch_run.specs.declared.answering.Answerer.{Answerer}
+use Rattle.tcc_watch_run.specs.declared.answering.Answerer.TheVariants as answerer
+use Rattle.tcc_watch_run.specs.declared.following.Follower.{Follower}
 use Rattle.tcc_watch_run.specs.declared.told.Told.{Told}
 
 -- what is said
@@ -47,6 +50,16 @@ KnowsLast options checkpoints s last =
 abbrev pub IsSaidBy : Bool → Options → List Sessions → Sessions → Said → Type 0
 IsSaidBy true options checkpoints = IsQuietlySaid options
 IsSaidBy false options checkpoints = IsWatched options checkpoints
+
+-- whether it says each anomaly in full
+abbrev pub is_quiet : Answerer → Bool
+is_quiet (answerer.Watch follower) = false
+is_quiet (answerer.Quiet quietly) = true
+
+-- its watch
+abbrev pub follower_of : Answerer → Follower
+follower_of (answerer.Watch follower) = follower
+follower_of (answerer.Quiet quietly) = quietly.follower
 
 -- the course of a run that answers of these snapshots, quietly or not
 abbrev pub course : Bool → Options → List Sessions → Course Told
