@@ -163,9 +163,9 @@ faults_found options s status (Order numbers fine ends) success few anomaly = ab
 faults_found options s status (Cycle is ends) success few anomaly = absurd (anomaly ends)
 faults_found options s status (Faults faulty ends) success few anomaly = faulty
 
-module _ (options : Options) (s : Sessions) (told : Told) (as : IsAsExplained options s told) where
+module _ (options : Options) (s : Sessions) (told : Told) (explains : IsAsExplained options s told) where
   found : Found options s told.status
-  found = subst (Found options s) (sym (ap (λ (z : Said). z.status) as.2)) (found_of options s as.0 as.1)
+  found = subst (Found options s) (sym (ap (λ (z : Said). z.status) explains.2)) (found_of options s explains.0 explains.1)
 
   pub consistent_by : (told.status ≡ Success) ⊎ (told.status ≡ TooFew) → IsVerdict s options.level verdict.Consistent
   consistent_by is = consistent_found options s told.status found is

@@ -1,5 +1,5 @@
 //! What answers the snapshots of a run.
-ghost use Rattle.std.specs.Prelude.{◌≡◌, Bool, IfOk, List, OnOk};
+ghost use Rattle.std.specs.Prelude.{◌≡◌, Bool, IfOk, List, OnOk, false};
 ghost use Rattle.tcc_txn.specs.{Nested.IsNested, Snapshots.Sessions};
 ghost use Rattle.tcc_print.specs.{Courses.AreSaidFaults, Saying.IsTold};
 ghost use Rattle.tcc_watch_run.specs.private.Following.{IsFollowing};

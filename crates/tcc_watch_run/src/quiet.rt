@@ -142,7 +142,8 @@ pub fn run_quiet<R: Read + Drop, W: Write, N: Write, G: Watcher>(
                 options: &options,
                 gate: watcher,
             };
-            run_reader(&run, Answerer::Quiet(quietly), reader, out, notes)
+            let mut answerer = Answerer::Quiet(quietly);
+            run_reader(&run, &mut answerer, reader, out, notes)
         }
         Err(NoMemory) => print_memory(out, options.json),
     }

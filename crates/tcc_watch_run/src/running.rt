@@ -128,13 +128,7 @@ fn answer_all<R: Read + Drop, T: Threads + Sync, W: Write, N: Write, G: Watcher>
 
 /// The run of a recording that has just begun. Where the last history is consistent and has fewer transactions than are required, this is
 /// noted.
-fn run_recording<
-    R: Read + Drop,
-    T: Threads + Sync,
-    W: Write,
-    N: Write,
-    G: Watcher,
->(
+fn run_recording<R: Read + Drop, T: Threads + Sync, W: Write, N: Write, G: Watcher>(
     run: &RunContext<T, G>,
     answerer: &mut Answerer,
     recording: &mut LargeRecording<R>,
@@ -157,28 +151,21 @@ fn run_recording<
 }
 
 /// The run of a reader's records, which are answered by what has taken nothing yet.
-pub(crate) fn run_reader<
-    R: Read + Drop,
-    T: Threads + Sync,
-    W: Write,
-    N: Write,
-    G: Watcher,
->(
+pub(crate) fn run_reader<R: Read + Drop, T: Threads + Sync, W: Write, N: Write, G: Watcher>(
     run: &RunContext<T, G>,
-    answerer: Answerer,
+    answerer: &mut Answerer,
     reader: R,
     out: &mut W,
     notes: &mut N,
 ) -> u8
-    requires following { IsFollowing (follower_of answerer) }
-    requires start { IsAtStart (follower_of answerer) }
-    ensures { IfSome (R.remaining reader) (λ bytes. IsRunBy (is_quiet answerer) run.now.options.now bytes (W.contents out.old) (W.contents out.new) result) }
+    requires following { IsFollowing (follower_of answerer.old) }
+    requires start { IsAtStart (follower_of answerer.old) }
+    ensures { IfSome (R.remaining reader) (λ bytes. IsRunBy (is_quiet answerer.old) run.now.options.now bytes (W.contents out.old) (W.contents out.new) result) }
 {
     match LargeRecording::new(run.alloc, reader) {
         Ok(recording) => {
             let mut recording = recording;
-            let mut answerer = answerer;
-            run_recording(run, &mut answerer, &mut recording, out, notes)
+            run_recording(run, answerer, &mut recording, out, notes)
         }
         Err(NoMemory) => print_memory(out, run.options.json),
     }
@@ -208,7 +195,8 @@ pub fn run_watch<R: Read + Drop, W: Write, N: Write, G: Watcher>(
                 options: &options,
                 gate: watcher,
             };
-            run_reader(&run, Answerer::Watch(follower), reader, out, notes)
+            let mut answerer = Answerer::Watch(follower);
+            run_reader(&run, &mut answerer, reader, out, notes)
         }
         Err(NoMemory) => print_memory(out, options.json),
     }

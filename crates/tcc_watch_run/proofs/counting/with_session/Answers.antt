@@ -1,4 +1,4 @@
-use Rattle.std.proofs.Common.{ap, arith, sym, ◌∙◌}
+use Rattle.std.proofs.Common.{ap, arith, cond, sym, ◌+◌, ◌∙◌}
 use Rattle.std.proofs.lemmas.List.{take_all}
 use Rattle.tcc_txn.specs.Snapshots.{finished_at}
 use Rattle.tcc_watch_run.proofs.Committed.{size, size-more}
@@ -6,9 +6,12 @@ use Rattle.tcc_watch_run.proofs.counting.with_session.Goals as goal
 
 pub loop-index-preserved : goal.loop-index-preserved
 loop-index-preserved c =
-    omega
-    (arith, c.in_ok-with_one.ensures.more, c.loop-index.invariant,
-    size-more (finished_at c.args.snapshot.now c.args.i) c.loop-index.index c.in-Some.recorded (sym c.in-Some.ensures))
+    omega (
+      arith,
+      c.in_ok-all.ensures.more ∙ ap (λ b. c.loop-index.all + cond b 1 0) c.committed.ensures,
+      c.loop-index.invariant,
+      size-more (finished_at c.args.snapshot.now c.args.i) c.loop-index.index c.in-Some.recorded (sym c.in-Some.ensures),
+    )
 
 pub returns : goal.returns
 returns c =

@@ -8,5 +8,5 @@ use Rattle.tcc_watch_run.proofs.running.run_reader.Goals as goal
 pub returns-in-Err : goal.returns-in-Err
 returns-in-Err g c =
     for_any (g.R.Read.remaining c.args.reader)
-    (λ text. early (is_quiet c.args.answerer) c.args.run.now.options.now text _ _ c.print_memory.result
-    (nothing_read (course (is_quiet c.args.answerer) c.args.run.now.options.now (checkpoints_of text)) text _ _ c.print_memory.result c.print_memory.ensures))
+    (λ text. early (is_quiet c.args.answerer.now) c.args.run.now.options.now text _ _ c.print_memory.result
+    (nothing_read (course (is_quiet c.args.answerer.now) c.args.run.now.options.now (checkpoints_of text)) text _ _ c.print_memory.result c.print_memory.ensures))
