@@ -7,7 +7,8 @@ The input has 100 seals. First writes go from session to session, each answered 
 gone by the first of these writes, over a chain of 18 reads: an anomaly of 20 steps. Readers at earlier positions of the chain make
 it cheaper by one step each, down to 3, and each such answer is followed by four more. These are at a seal with nothing new, at one
 where a read can't be traced, and at one where it can. The last is at one after a session that sorts first, so that all transactions
-have other numbers. Both levels; with a certificate, whose tables are searched anew at each seal, 1, 2 and 32 workers; and without.
+have other numbers. Both levels; with a certificate, whose tables are searched anew at each seal, 1, 2 and 32 workers; without; and with
+`--large --quiet`, where a watch answers until the first anomaly.
 
 Each difference is one line; the last line is `N passed, M failed`.
 """
@@ -90,6 +91,11 @@ def beginnings(texts, sealed):
         yield None if text.startswith(begins) else "answer %d: wanted %s, got %s" % (number, begins, text.split("\n")[0])
 
 
+def without_orders(text):
+    """The text but for the lines of orders."""
+    return "".join(line for line in text.splitlines(keepends=True) if not line.startswith("order: "))
+
+
 def outcomes(tcc, sealed):
     """What was compared, each with what is wrong, or None."""
     whole = [record for records, _ in sealed for record in [*records, "seal"]]
@@ -97,11 +103,12 @@ def outcomes(tcc, sealed):
         texts, status = alone(tcc, level, sealed)
         if level == "causal":
             yield from (("alone", wrong) for wrong in beginnings(texts, sealed))
-        for more in ([], *(["--workers", workers, "--certificate", os.devnull] for workers in WORKERS)):
+        for more in ([], ["--large", "--quiet"], *(["--workers", workers, "--certificate", os.devnull] for workers in WORKERS)):
             options = ["--level", level, *more]
             got, status_got = explained(tcc, options, whole)
             which = " ".join(options)
-            yield from ((which, wrong) for wrong in differences(got, texts))
+            wanted = map(without_orders, texts) if "--quiet" in more else texts
+            yield from ((which, wrong) for wrong in differences(got, wanted))
             yield which, None if status_got == status else "status %d, alone %d" % (status_got, status)
 
 

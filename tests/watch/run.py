@@ -1,12 +1,13 @@
 #!/usr/bin/env python3
-"""Random records with seals: each answer of `tcc watch` beside that of `tcc explain` for the records up to its seal.
+"""Random records with seals: each answer of `tcc watch` and of `tcc explain --large --quiet` beside that of `tcc explain --large`.
 
     run.py [--tcc PATH] [--count N] [--seed N]
 
 The records of up to six sessions come interleaved, with reads of what is written later or never, aborted and unknown transactions,
-values written twice, pairs that lead in a circle, and seals inside of transactions. `tcc explain --large --quiet` answers the same
-records, and of some of them each beginning alone. The first anomaly has to be the same, text and all. Each later one is one line
-with its count of transactions and sessions, which are counted here.
+values written twice, pairs that lead in a circle, and seals inside of transactions. `tcc explain --large` decides each seal by
+itself, and of some records each beginning alone; its orders are left out here. With `--quiet` a watch answers too, and all has to be
+the same: text, status and notes, where more transactions are required than there are, and where not. Of `tcc watch` the first anomaly
+has to be the same, text and all. Each later one is one line with its count of transactions and sessions, which are counted here.
 
 Of a pipe that stays open each answer has to come before another record is written. Then come a pipe that is cut: the records end
 inside of a transaction, and nobody reads the answers any more.
@@ -42,6 +43,7 @@ class Shape(NamedTuple):
     transactions: int
     late: float  # how often a read is of what isn't written yet
     odd: float  # how often a transaction doesn't commit, or writes what was written
+    seals: float  # how often a seal comes
 
 
 def operations(dice: random.Random, shape: Shape, values: List[Tuple[str, int]], written: int) -> List[str]:
@@ -85,7 +87,7 @@ def records_of(dice: random.Random, shape: Shape) -> List[str]:
                         del left[session]
         elif not sessions:
             break
-        if dice.random() < 0.06 and records.count("seal") < 250:
+        if dice.random() < shape.seals and records.count("seal") < 250:
             records.append("seal")
     return records
 
@@ -143,10 +145,23 @@ def text_of(records: List[str]) -> bytes:
     return "".join(record + "\n" for record in records).encode()
 
 
-def printed(tcc: List[str], words: List[str], records: List[str]) -> Tuple[str, int]:
-    """What a run prints, and its status."""
+class Printed(NamedTuple):
+    """What a run prints, its status, and its notes."""
+
+    text: str
+    status: int
+    notes: str
+
+
+def printed(tcc: List[str], words: List[str], records: List[str]) -> Printed:
     done = subprocess.run(tcc + words, input=text_of(records), stdout=subprocess.PIPE, stderr=subprocess.PIPE, timeout=SECONDS, check=False)
-    return done.stdout.decode(), done.returncode
+    return Printed(done.stdout.decode(), done.returncode, done.stderr.decode())
+
+
+def explained_of(tcc: List[str], words: List[str], records: List[str]) -> Printed:
+    """What `explain --large` prints, but for its orders."""
+    done = printed(tcc, ["explain", "--large", *words], records)
+    return done._replace(text="".join(line for line in done.text.splitlines(keepends=True) if not line.startswith("order: ")))
 
 
 def answers_in(text: str) -> List[str]:
@@ -209,23 +224,35 @@ def without_open(records: List[str]) -> List[str]:
 def alone(tcc: List[str], level: str, records: List[str]) -> List[str]:
     """What `explain` says of each beginning, as records of their own."""
     ends = [index for index, record in enumerate(records) if record == "seal"] + [len(records)]
-    return [printed(tcc, ["explain", "--large", "--quiet", "--level", level], without_open(records[:end]))[0] for end in ends]
+    return [explained_of(tcc, ["--level", level], without_open(records[:end])).text for end in ends]
+
+
+def quietly(tcc: List[str], words: List[str], records: List[str], name: str) -> Iterator[Outcome]:
+    """What `explain --large --quiet` prints beside what `explain --large` does."""
+    wanted = explained_of(tcc, words, records)
+    got = printed(tcc, ["explain", "--large", "--quiet", *words], records)
+    which = "quiet " + " ".join(words)
+    yield name, difference(which, answers_in(wanted.text), answers_in(got.text))
+    yield name, None if got.status == wanted.status else "%s: status %d, wanted %d" % (which, got.status, wanted.status)
+    yield name, None if got.notes == wanted.notes else "%s: notes %r, wanted %r" % (which, got.notes, wanted.notes)
 
 
 def of_history(tcc: List[str], number: int, level: str, records: List[str]) -> Iterator[Outcome]:
     """A history's answers."""
     name = "history %d, %s" % (number, level)
     counts = counts_of(records)
-    text, status = printed(tcc, ["explain", "--large", "--quiet", "--level", level], records)
-    explained = answers_in(text)
-    got, watched_status = printed(tcc, ["watch", "--level", level], records)
-    yield name, difference("watch", wanted_of(explained, counts), answers_in(got))
-    yield name, None if status == watched_status else "status %d, of explain %d" % (watched_status, status)
+    explained = explained_of(tcc, ["--level", level], records)
+    got = printed(tcc, ["watch", "--level", level], records)
+    yield name, difference("watch", wanted_of(answers_in(explained.text), counts), answers_in(got.text))
+    yield name, None if explained.status == got.status else "status %d, of explain %d" % (got.status, explained.status)
+    required = counts[-1][0] + number % 3 - 1
+    yield from quietly(tcc, ["--level", level, "--require", str(max(required, 1))], records, name)
     if number % ALONE == 0:
         by_itself = alone(tcc, level, records)
-        yield name, difference("explain", by_itself[:len(explained)], explained)
-        lines = printed(tcc, ["watch", "--json", "--level", level], records)[0].splitlines()
-        kinds = [one.split(":")[0] + (" still" if one.startswith("anomaly: still") else "") for one in answers_in(got)]
+        answers = answers_in(explained.text)
+        yield name, difference("explain", by_itself[:len(answers)], answers)
+        lines = printed(tcc, ["watch", "--json", "--level", level], records).text.splitlines()
+        kinds = [one.split(":")[0] + (" still" if one.startswith("anomaly: still") else "") for one in answers_in(got.text)]
         yield name, difference("json", kinds, [kind_of(line) for line in lines])
 
 
@@ -234,7 +261,7 @@ def drawn(count: int, seed: int) -> Iterator[Tuple[int, List[str]]]:
     for number in range(count):
         dice = random.Random(seed * 1_000_003 + number)
         shape = Shape(dice.randrange(1, 7), dice.randrange(1, 5), dice.choice((3, 6, 12, 24, 48)), dice.choice((0, 0, 0, 0.02, 0.2)),
-                      dice.choice((0, 0, 0.1, 0.3)))
+                      dice.choice((0, 0, 0.1, 0.3)), dice.choice((0.01, 0.06, 0.06, 0.3)))
         yield number, records_of(dice, shape)
 
 

@@ -20,7 +20,7 @@ use tcc_full::{Limits, ReportOptions, RunContext, run_full, tell_unread};
 use tcc_run::{OpenGate, Options, run_explain, run_large};
 use tcc_survey_run::{SurveyOptions, run_survey, run_survey_watched};
 use tcc_verdict::run_check_large_watched;
-use tcc_watch_run::run_watch;
+use tcc_watch_run::{run_quiet, run_watch};
 use watch::Watch;
 use watched::{WatchedReader, WatchedWriter};
 
@@ -34,20 +34,29 @@ struct Paths<'a> {
     slice: Option<&'a str>,
 }
 
-/// Runs `explain --large`, with files for the certificate and for a slice if they are given. At a terminal a run that takes longer
-/// shows what it is doing.
+/// The files at such paths.
+#[derive(Drop)]
+struct Files<'a> {
+    certificate: Option<ErrorReporter<'a, OutputFile>>,
+    slice: Option<ErrorReporter<'a, OutputFile>>,
+}
+
+/// Runs `explain --large`, with files for the certificate and for a slice if they are given. Where there are none and no order is wanted, a
+/// watch answers seals. At a terminal a run that takes longer shows what it is doing.
 fn run_shown<W: Write>(
     rt: &HostRuntime,
     threads: &(impl Threads + Wait + Clock + Sync),
     options: Options,
     input: ErrorReporter<'_, RecordInput>,
-    certificate: Option<ErrorReporter<'_, OutputFile>>,
-    slice: Option<ErrorReporter<'_, OutputFile>>,
+    files: Files<'_>,
+    quiet: bool,
     out: &mut W,
 ) -> u8 {
+    let Files { certificate, slice } = files;
     let mut certificate = certificate;
     let mut slice = slice;
     let mut notes = rt.stderr();
+    let is_alone = certificate.is_none() && slice.is_none();
     let is_shown = is_waited_for(rt, input.stream());
     let watch = Watch::new(threads, rt.stderr());
     let watch = &watch;
@@ -55,17 +64,21 @@ fn run_shown<W: Write>(
         if is_shown {
             let _ = scope.spawn(move || watch.show());
         }
-        let code = run_large(
-            threads,
-            rt.alloc(),
-            input,
-            out,
-            &mut certificate,
-            &mut slice,
-            &mut notes,
-            options,
-            watch,
-        );
+        let code = if quiet && is_alone {
+            run_quiet(threads, rt.alloc(), input, out, &mut notes, options, watch)
+        } else {
+            run_large(
+                threads,
+                rt.alloc(),
+                input,
+                out,
+                &mut certificate,
+                &mut slice,
+                &mut notes,
+                options,
+                watch,
+            )
+        };
         watch.finish();
         code
     })
@@ -79,12 +92,14 @@ fn explain_large<W: Write>(
     options: Options,
     input: ErrorReporter<'_, RecordInput>,
     paths: Paths<'_>,
+    quiet: bool,
     out: &mut W,
 ) -> u8 {
     match open_outputs(rt, paths.certificate, paths.slice, input.stream()) {
         Ok(files) => {
             let (certificate, slice) = files;
-            run_shown(rt, threads, options, input, certificate, slice, out)
+            let files = Files { certificate, slice };
+            run_shown(rt, threads, options, input, files, quiet, out)
         }
         Err(error) => print_unopened(error.kind(), options.json, out),
     }
@@ -151,6 +166,15 @@ fn explain_full<W: Write>(
     }
 }
 
+/// How records are explained.
+#[derive(Clone, Copy)]
+struct Manner {
+    /// Up to the large limits.
+    large: bool,
+    /// The order of a consistent history isn't wanted.
+    quiet: bool,
+}
+
 /// Explains the records at the path, or of the standard input, and gives the status of the run. If paths are given, their files are
 /// for what comes after the answers.
 fn explain_records<W: Write>(
@@ -159,13 +183,13 @@ fn explain_records<W: Write>(
     options: Options,
     history: Option<&str>,
     paths: Paths<'_>,
-    large: bool,
+    manner: Manner,
     out: &mut W,
 ) -> u8 {
     match open_input(rt, history) {
         Ok(input) => {
-            if large {
-                explain_large(rt, threads, options, input, paths, out)
+            if manner.large {
+                explain_large(rt, threads, options, input, paths, manner.quiet, out)
             } else {
                 explain(rt, threads, options, input, paths.certificate, out)
             }
@@ -312,7 +336,8 @@ fn main(rt: HostRuntime) -> ExitCode {
                     slice: slice.as_deref(),
                 };
                 let history = history.as_deref();
-                explain_records(&rt, &rt, options, history, paths, large, &mut out)
+                let manner = Manner { large, quiet };
+                explain_records(&rt, &rt, options, history, paths, manner, &mut out)
             }
         }
         Ok(

@@ -1,16 +1,18 @@
 -- How many committed transactions a snapshot has, and one with one transaction more.
 use Rattle.std.proofs.Common.{◌≡◌, ℕ, suc, ◌+◌, Bool, true, false, cond, T, List, [], ◌∷◌, ◌++◌, length, sum_by}
-use Rattle.std.proofs.Common.{refl, ap, sym, ◌∙◌, arith, length-append, None}
-use Rattle.std.specs.Prelude.{filter, unwrap_or}
+use Rattle.std.proofs.Common.{refl, ap, sym, ◌<◌, ◌∙◌, arith, get_or, length-append, take, None, Option, Some}
+use Rattle.std.specs.Prelude.{filter, slice_get, unwrap_or}
+use Rattle.std.specs.Option.{option_map_or}
 use Rattle.std.specs.FinMap as finite
 use Rattle.std.specs.FinMap.Entries.{find, is_sorted, put}
 use Rattle.std.specs.declared.cmp.Ordering.{Ordering}
 use Rattle.std.specs.declared.cmp.Ordering.TheVariants.{Less, Equal, Greater}
-use Rattle.std.proofs.lemmas.List.{length-map, nil_from_length}
+use Rattle.std.proofs.lemmas.List.{length-map, nil_from_length, take_more}
 use Rattle.std.proofs.lemmas.List.Elements.{filter-append}
-use Rattle.std.proofs.lemmas.List.Sums.{sum_by-cons}
+use Rattle.std.proofs.lemmas.List.Sums.{sum_by-cons, sum_by_more}
+use Rattle.std.proofs.lemmas.Option.{get_or_from_slice_get, slice_get-get_or, slice_get_within}
 use Rattle.tcc_txn.specs.Finished.{with_transaction}
-use Rattle.tcc_txn.specs.Snapshots.{Sessions}
+use Rattle.tcc_txn.specs.Snapshots.{Sessions, finished_at}
 use Rattle.tcc_txn.specs.Transactions.{Transaction}
 use Rattle.tcc_txn.proofs.Growing.{both-parts, find-absent}
 use Rattle.tcc_txn.proofs.GrownSnapshot.{entries-with_transaction}
@@ -20,10 +22,10 @@ use Rattle.tcc_reads.specs.Sites.{Stand, is_committed, stands, stands_from, stan
 use Rattle.tcc_reads.specs.Sources.{entry_of, history}
 
 -- how many of some transactions are committed
-abbrev size : List Transaction → ℕ
+abbrev pub size : List Transaction → ℕ
 size txns = length (filter (λ (txn : Transaction). txn.committed) txns)
 
-abbrev part_size : List ℕ × List Transaction → ℕ
+abbrev pub part_size : List ℕ × List Transaction → ℕ
 part_size part = size part.1
 
 abbrev one : Transaction → ℕ
@@ -96,8 +98,26 @@ committed_from session (e ∷ later) =
     ∙ ((λ i. committed_in session e.0 1 e.1 i + committed_from (session + 1) later i)
     ∙ sym (sum_by-cons part_size e later)))
 
-counted : (s : Sessions) → count (history s) ≡ sum_by part_size (finite.entries s) + 1
+pub counted : (s : Sessions) → count (history s) ≡ sum_by part_size (finite.entries s) + 1
 counted s = omega (arith, length-map (committed (stands s)) (entry_of (stands s)), committed_from 0 (finite.entries s))
+
+-- one more of some transactions, by its index
+pub size-more : (txns : List Transaction) (i : ℕ) (txn : Transaction) → slice_get txns i ≡ Some txn → size (take (i + 1) txns) ≡ size (take i txns) + cond txn.committed 1 0
+size-more txns i txn found =
+    ap size
+    (take_more txns i txn (slice_get_within txns i txn found)
+    ∙ ap (λ (t : Transaction). take i txns ++ t ∷ []) (get_or_from_slice_get txns i txn txn found))
+    ∙ size-push (take i txns) txn
+
+-- one more session, by its index
+pub sessions-more : (s : Sessions) (i : ℕ) → i < length (finite.entries s)
+    → sum_by part_size (take (i + 1) (finite.entries s)) ≡ sum_by part_size (take i (finite.entries s)) + size (finished_at s i)
+sessions-more s i within =
+    sum_by_more part_size (finite.entries s) i ([], []) within
+    ∙ ap (λ txns. sum_by part_size (take i (finite.entries s)) + size txns) (sym here)
+  where
+    here : finished_at s i ≡ (get_or (finite.entries s) i ([], [])).1
+    here = ap (λ (o : Option (List ℕ × List Transaction)). option_map_or (λ named. named.1) o []) (slice_get-get_or (finite.entries s) i ([], []) within)
 
 -- it has one more, or as many as before
 pub count_more : (s : Sessions) (session : List ℕ) (txn : Transaction)

@@ -24,9 +24,9 @@ use Rattle.tcc_print.proofs.Counted.{grows}
 use Rattle.tcc_print.proofs.Courses.{HasAnswered, IsLast}
 use Rattle.tcc_print.proofs.LastSaid.{last_snapshot}
 use Rattle.tcc_print.proofs.Checkpoints.{at_end-none, finished-seal}
-use Rattle.tcc_watch_run.specs.Watching.{IsAnomaly, IsWatched, WasAnomaly, checkpoints_of}
+use Rattle.tcc_watch_run.specs.Watching.{IsAnomaly, WasAnomaly, checkpoints_of}
 use Rattle.tcc_watch_run.specs.declared.told.Told.{Told}
-use Rattle.tcc_watch_run.specs.private.Stages.{Knows, KnowsLast, KnowsNow, course}
+use Rattle.tcc_watch_run.specs.private.Stages.{IsSaidBy, Knows, KnowsLast, KnowsNow, course}
 
 -- ---- how many transactions the snapshots at seals have
 
@@ -164,8 +164,8 @@ none_said R (x ∷ snapshots) all = absurd all
 
 -- ---- at the checkpoint that comes
 
-module _ {R B : Type 0} (remaining : R → Option (List ℕ)) (options : Options) (text : List ℕ) (old : RecordingWithin R B) (before now : Option (List ℕ))
-    (answered : Option (PreviousAnswer Told)) (way : HasAnswered remaining (course options (checkpoints_of text)) text old before now answered) where
+module _ {R B : Type 0} (remaining : R → Option (List ℕ)) (quiet : Bool) (options : Options) (text : List ℕ) (old : RecordingWithin R B) (before now : Option (List ℕ))
+    (answered : Option (PreviousAnswer Told)) (way : HasAnswered remaining (course quiet options (checkpoints_of text)) text old before now answered) where
   abbrev ahead : List Sessions
   ahead = sealed_after way.taken way.ahead.items
 
@@ -201,8 +201,8 @@ module _ {R B : Type 0} (remaining : R → Option (List ℕ)) (options : Options
       where
         empty : sealed_in way.taken ≡ []
         empty =
-            none_said (IsWatched options (checkpoints_of text)) (sealed_in way.taken)
-            (subst (λ (l : List Said). AllZip (IsWatched options (checkpoints_of text)) (sealed_in way.taken) l) nil way.answers.0)
+            none_said (IsSaidBy quiet options (checkpoints_of text)) (sealed_in way.taken)
+            (subst (λ (l : List Said). AllZip (IsSaidBy quiet options (checkpoints_of text)) (sealed_in way.taken) l) nil way.answers.0)
 
         by : Contains (sealed_in way.taken) e ⊎ Contains ahead e → ⊥
         by (inl past) = none-in e (subst (λ (l : List Sessions). Contains l e) empty past)
@@ -211,16 +211,16 @@ module _ {R B : Type 0} (remaining : R → Option (List ℕ)) (options : Options
     knows : KnowsLast options (checkpoints_of text) s answered
     knows = by answered way.last
       where
-        by : (o : Option (PreviousAnswer Told)) → IsLast (course options (checkpoints_of text)) o way.taken way.said → KnowsLast options (checkpoints_of text) s o
+        by : (o : Option (PreviousAnswer Told)) → IsLast (course quiet options (checkpoints_of text)) o way.taken way.said → KnowsLast options (checkpoints_of text) s o
         by None known apart = none_yet known.1
         by (Some last) known apart =
             known_now last.outcome.has_told known.0 (omega (arith, more, known.1.0, apart)) known.1.1.1
 
   -- the result of the recording there
   pub knows_at : (new : RecordingWithin R B) (m : Checkpoint)
-      → ((taken : List Item) (ahead : Answers) → IsRecording (course options (checkpoints_of text)).limits remaining old taken ahead
-      → TakesCheckpoint (course options (checkpoints_of text)).limits remaining taken ahead (Ok m) new)
-      → (s : Sessions) → ((taken : List Item) (ahead : Answers) → IsRecording (course options (checkpoints_of text)).limits remaining new taken ahead → s ≡ finished_in taken)
+      → ((taken : List Item) (ahead : Answers) → IsRecording (course quiet options (checkpoints_of text)).limits remaining old taken ahead
+      → TakesCheckpoint (course quiet options (checkpoints_of text)).limits remaining taken ahead (Ok m) new)
+      → (s : Sessions) → ((taken : List Item) (ahead : Answers) → IsRecording (course quiet options (checkpoints_of text)).limits remaining new taken ahead → s ≡ finished_in taken)
       → KnowsLast options (checkpoints_of text) s answered
   knows_at new m takes s finished = by m (takes way.taken way.ahead way.recorded)
     where
@@ -232,7 +232,7 @@ module _ {R B : Type 0} (remaining : R → Option (List ℕ)) (options : Options
           (after_passed way.taken passed rest.items e none (subst (λ (l : List Item). Contains (sealed_after way.taken l) e) is has)))
           (subst (λ (z : Sessions). transaction_count (finished_in way.taken) ≤ transaction_count z) (sym same) (no_fewer way.taken passed))
 
-      by : (n : Checkpoint) → TakesCheckpoint (course options (checkpoints_of text)).limits remaining way.taken way.ahead (Ok n) new → KnowsLast options (checkpoints_of text) s answered
+      by : (n : Checkpoint) → TakesCheckpoint (course quiet options (checkpoints_of text)).limits remaining way.taken way.ahead (Ok n) new → KnowsLast options (checkpoints_of text) s answered
       by checkpoint.Seal (passed, rest, passes, recording) =
           next passed (record { items = item.Seal ∷ rest.items; fault = rest.fault }) passes.0 (ap (λ (a : Answers). a.items) passes.1)
           (finished _ rest recording ∙ finished-seal way.taken passed)

@@ -2,5 +2,6 @@ pub mod Committed
 pub mod Earlier
 pub mod Fitting
 pub mod FollowingLemmas
+pub mod Quietly
 pub mod Watched
 pub mod Runs

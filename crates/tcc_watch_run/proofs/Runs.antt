@@ -1,5 +1,5 @@
 -- What a run does with its bytes, from what its stages say.
-use Rattle.std.proofs.Common.{◌≡◌, ℕ, List, Option, Result, Ok, Err, inl, inr, subst}
+use Rattle.std.proofs.Common.{◌≡◌, Bool, ℕ, List, Option, Result, Ok, Err, inl, inr, subst}
 use Rattle.std.specs.Prelude.{IfOk, OnOk}
 use Rattle.tcc_txn.specs.Nested.{IsNested}
 use Rattle.tcc_txn.specs.Snapshots.{Sessions}
@@ -8,22 +8,22 @@ use Rattle.tcc_print.specs.Statuses.{code_of}
 use Rattle.tcc_print.specs.declared.previous.PreviousAnswer.{PreviousAnswer}
 use Rattle.tcc_print.specs.declared.options.Options.{Options}
 use Rattle.tcc_print.specs.private.Courses.{AllAnswered, EndsEarly}
-use Rattle.tcc_watch_run.specs.Watching.{IsWatchRun, checkpoints_of}
+use Rattle.tcc_watch_run.specs.Watching.{checkpoints_of}
 use Rattle.tcc_watch_run.specs.declared.following.Follower.{Follower}
 use Rattle.tcc_watch_run.specs.declared.told.Told.{Told}
 use Rattle.tcc_watch_run.specs.private.Following.{HasCaughtUp, IsFollowing}
-use Rattle.tcc_watch_run.specs.private.Stages.{course, told_said}
+use Rattle.tcc_watch_run.specs.private.Stages.{IsRunBy, course, told_said}
 
 -- a run that ends early
-pub early : (options : Options) (text : List ℕ) (before after : Option (List ℕ)) (code : ℕ)
-    → EndsEarly (course options (checkpoints_of text)) text before after code → IsWatchRun options text before after code
-early options text before after code (said, last, is, ends, inl whole) = (said, last, is, ends, inl (whole.0, whole.2))
-early options text before after code (said, last, is, ends, inr cuts) = (said, last, is, ends, inr cuts)
+pub early : (quiet : Bool) (options : Options) (text : List ℕ) (before after : Option (List ℕ)) (code : ℕ)
+    → EndsEarly (course quiet options (checkpoints_of text)) text before after code → IsRunBy quiet options text before after code
+early quiet options text before after code (said, last, is, ends, inl whole) = (said, last, is, ends, inl (whole.0, whole.2))
+early quiet options text before after code (said, last, is, ends, inr cuts) = (said, last, is, ends, inr cuts)
 
 -- one that has answered all
-pub concluded : (options : Options) (text : List ℕ) (before after : Option (List ℕ)) (last : PreviousAnswer Told) (code : ℕ)
-    → AllAnswered (course options (checkpoints_of text)) text before after last → code ≡ code_of last.outcome.status → IsWatchRun options text before after code
-concluded options text before after last code (said, is, ends, known, out) by = (said, told_said last.outcome, inl is, ends, inl (out, by))
+pub concluded : (quiet : Bool) (options : Options) (text : List ℕ) (before after : Option (List ℕ)) (last : PreviousAnswer Told) (code : ℕ)
+    → AllAnswered (course quiet options (checkpoints_of text)) text before after last → code ≡ code_of last.outcome.status → IsRunBy quiet options text before after code
+concluded quiet options text before after last code (said, is, ends, known, out) by = (said, told_said last.outcome, inl is, ends, inl (out, by))
 
 -- ---- the watch
 

@@ -76,42 +76,35 @@ as_explained options s e has_told (said, is, text, status, faults) =
 
 -- ---- what is said
 
-module _ (options : Options) (checkpoints : List Sessions) (w s : Sessions) (same : w ≡ s) (told : Told) where
+module _ (options : Options) (checkpoints : List Sessions) (s : Sessions) (told : Told) where
   -- where there is no anomaly what was known stays
-  kept : (before after : Bool) → after ≡ before → (IsAnomaly options s → ⊥) → Knows options checkpoints s before → KnowsNow options checkpoints s after
+  pub kept : (before after : Bool) → after ≡ before → (IsAnomaly options s → ⊥) → Knows options checkpoints s before → KnowsNow options checkpoints s after
   kept true after is none knows = subst (λ (b : Bool). KnowsNow options checkpoints s b) (sym is) (inr knows)
   kept false after is none knows = subst (λ (b : Bool). KnowsNow options checkpoints s b) (sym is) (none, knows)
 
-  told_now : (after : Bool) → after ≡ true → IsAnomaly options s → KnowsNow options checkpoints s after
+  pub told_now : (after : Bool) → after ≡ true → IsAnomaly options s → KnowsNow options checkpoints s after
   told_now after is found = subst (λ (b : Bool). KnowsNow options checkpoints s b) (sym is) (inl found)
 
-  pub consistent_told : (before : Bool) → IsVerdict w options.level verdict.Consistent → told_said told ≡ consistent_said options (history s)
-      → told.has_told ≡ before → Knows options checkpoints s before → IsTold (course options checkpoints) s told
-  consistent_told before is text known knows =
-      let fine : IsConsistent options s = subst (λ (z : Sessions). IsConsistent options z) same is in
+  pub consistent_told : (before : Bool) → IsVerdict s options.level verdict.Consistent → told_said told ≡ consistent_said options (history s)
+      → told.has_told ≡ before → Knows options checkpoints s before → IsTold (course false options checkpoints) s told
+  consistent_told before fine text known knows =
       (inl (fine, text), kept before told.has_told known (λ found. fine.1 found.1) knows)
 
-  found_in : IsVerdict w options.level verdict.Anomaly → IsAnomaly options s
-  found_in is = subst (λ (z : Sessions). IsAnomaly options z) same is
-
   -- an anomaly after the first
-  pub still_told : IsVerdict w options.level verdict.Anomaly → told_said told ≡ still_said options (history s) → told.has_told ≡ true
-      → Knows options checkpoints s true → IsTold (course options checkpoints) s told
-  still_told is text known knows =
-      let found = found_in is in
+  pub still_told : IsVerdict s options.level verdict.Anomaly → told_said told ≡ still_said options (history s) → told.has_told ≡ true
+      → Knows options checkpoints s true → IsTold (course false options checkpoints) s told
+  still_told found text known knows =
       (inr (inl ((found, knows), text)), told_now told.has_told known found)
 
   -- and the first
-  pub anomaly_told : IsVerdict w options.level verdict.Anomaly → IsAsExplained options s told → told.has_told ≡ true
-      → Knows options checkpoints s false → IsTold (course options checkpoints) s told
-  anomaly_told is (explained, said, text) known knows =
-      let found = found_in is in
+  pub anomaly_told : IsVerdict s options.level verdict.Anomaly → IsAsExplained options s told → told.has_told ≡ true
+      → Knows options checkpoints s false → IsTold (course false options checkpoints) s told
+  anomaly_told found (explained, said, text) known knows =
       (inr (inr ((λ fine. fine.1 found.1), (λ later. knows later.1), explained, said, text)), told_now told.has_told known found)
 
-  pub unresolved_told : (before : Bool) → IsVerdict w options.level verdict.Unresolved → IsAsExplained options s told
-      → told.has_told ≡ before → Knows options checkpoints s before → IsTold (course options checkpoints) s told
-  unresolved_told before is (explained, said, text) known knows =
-      let found : IsVerdict s options.level verdict.Unresolved = subst (λ (z : Sessions). IsVerdict z options.level verdict.Unresolved) same is in (
-        inr (inr ((λ fine. found fine.0), (λ later. found later.0.0), explained, said, text)),
-        kept before told.has_told known (λ anomaly. found anomaly.0) knows,
-      )
+  pub unresolved_told : (before : Bool) → IsVerdict s options.level verdict.Unresolved → IsAsExplained options s told
+      → told.has_told ≡ before → Knows options checkpoints s before → IsTold (course false options checkpoints) s told
+  unresolved_told before found (explained, said, text) known knows = (
+    inr (inr ((λ fine. found fine.0), (λ later. found later.0.0), explained, said, text)),
+    kept before told.has_told known (λ anomaly. found anomaly.0) knows,
+  )

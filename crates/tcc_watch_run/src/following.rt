@@ -1,16 +1,21 @@
 //! A watch that takes what is new in a snapshot that grows.
-ghost use Rattle.std.specs.Prelude.{◌≡◌, ◌≤◌, ◌<◌, ◌+◌, ◌^◌, OnErr, OnOk, IfOk, Some, if◌then◌else◌, unwrap_or};
+ghost use Rattle.std.specs.Prelude.{◌≡◌, ◌<◌, IfOk, OnOk, Some, unwrap_or};
 ghost use Rattle.std.specs.BTreeMap.{Updates, get};
 ghost use Rattle.std.specs.Cmp.Lexicographic.{slice_cmp};
 ghost use Rattle.std.specs.FinMap as sessions;
 ghost use Rattle.std.specs.Ordering.{nat_cmp};
 ghost use Rattle.tcc_txn.specs.{Finished.IsWithinLimits, Finished.with_transaction, Nested.IsNested, declared.limits.Limits.TheVariants.Large};
+ghost use Rattle.tcc_watch.specs.Verdicts.{IsVerdict};
 ghost use Rattle.tcc_watch_run.specs.private.Following.{IsFollowing, CanTakeFrom, HasCaughtUp, HasTaken, TakesRest, TakesSession, IsAtStart};
 
+use crate::counting::with_one;
 use std::alloc::Global;
 use std::collections::BTreeMap;
+use tcc_graph::Level;
+use tcc_print::RunContext;
+use tcc_run::{Stage, Watcher};
 use tcc_txn::{GrowFault, LargeSnapshot, Name, NoMemory, Txn};
-use tcc_watch::Watch;
+use tcc_watch::{Verdict, Watch};
 
 /// A watch of a snapshot that grows, and how many transactions it has taken.
 #[derive(Drop)]
@@ -20,18 +25,6 @@ pub(crate) struct Follower {
     pub taken: BTreeMap<Name, usize>,
     /// Of all sessions, the committed ones.
     pub committed: usize,
-}
-
-/// One more, if this holds. It is out of memory only where one more is more than 64 bits count.
-fn with_one(count: usize, holds: bool) -> Result<usize, NoMemory>
-    ensures more { IfOk result (λ more. more ≡ count + (if holds then 1 else 0)) }
-    ensures many { OnErr result (2 ^ 64 ≤ count + 1) }
-{
-    if holds {
-        count.checked_add(1).ok_or(NoMemory)
-    } else {
-        Ok(count)
-    }
 }
 
 /// The count of a session from now on.
@@ -145,5 +138,37 @@ impl Follower {
             self.take_session(alloc, snapshot, i)?;
         }
         Ok(())
+    }
+    /// Takes what is new in the snapshot, and returns the verdict of all that it has.
+    fn verdict(
+        &mut self,
+        alloc: Global,
+        snapshot: &LargeSnapshot,
+        level: Level,
+    ) -> Result<Verdict, NoMemory>
+        requires following { IsFollowing self.old }
+        requires nested { IsNested self.old.watch snapshot.now }
+        ensures caught { OnOk result (HasCaughtUp self.new snapshot.now) }
+        ensures verdict { IfOk result (IsVerdict snapshot.now level) }
+    {
+        self.catch_up(alloc, snapshot)?;
+        self.watch.answer(alloc, level)
+    }
+
+    /// The same at the level of the run, whose watcher is called when this begins and when it ends.
+    pub(crate) fn decide<T, G: Watcher>(
+        &mut self,
+        run: &RunContext<T, G>,
+        snapshot: &LargeSnapshot,
+    ) -> Result<Verdict, NoMemory>
+        requires following { IsFollowing self.old }
+        requires nested { IsNested self.old.watch snapshot.now }
+        ensures caught { OnOk result (HasCaughtUp self.new snapshot.now) }
+        ensures verdict { IfOk result (IsVerdict snapshot.now run.now.options.now.level) }
+    {
+        run.gate.begin(Stage::Deciding);
+        let verdict = self.verdict(run.alloc, snapshot, run.options.level);
+        run.gate.end();
+        verdict
     }
 }

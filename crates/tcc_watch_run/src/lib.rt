@@ -1,11 +1,17 @@
 //! Runs of `tcc watch` from bytes to bytes: answers while a test runs. Each costs what is new, as long as all is consistent, and again
-//! after the first anomaly. Command lines and files belong to other crates.
+//! after the first anomaly. Runs of `tcc explain --large --quiet` that answer seals at this cost. Command lines and files belong to other
+//! crates.
 #![tactic(auto)]
 
+mod answering;
+mod counting;
 mod following;
+pub mod laws;
 mod lines;
 mod printing;
+mod quiet;
 mod running;
 mod told;
 
+pub use quiet::run_quiet;
 pub use running::run_watch;

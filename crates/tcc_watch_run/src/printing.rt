@@ -1,12 +1,16 @@
 //! How what a watch says is written, and kept.
-ghost use Rattle.std.specs.Prelude.{◌≡◌, IfErr, IfOk, List, MatchResult, Ok, OnOk, Some};
+ghost use Rattle.std.specs.Prelude.{◌≡◌, ◌≢◌, ◌-◌, Bool, IfErr, IfOk, List, MatchResult, Ok, OnOk, Some};
 ghost use Rattle.std.specs.Io.KnownBytes.{Appends};
 ghost use Rattle.tcc_txn.specs.{Finished.transaction_count, Snapshots.Sessions};
 ghost use Rattle.tcc_rows.specs.declared.recording.Checkpoint.TheVariants as checkpoints;
-ghost use Rattle.tcc_print.specs.{Notes.AddsEach, Notes.read_notes, Printed.CutsOff, Saying.EndsAnswering, Saying.IsTold, Saying.SaysAt, Saying.SaysLast};
+ghost use Rattle.tcc_print.specs.{Notes.AddsEach, Notes.IsNoted, Notes.read_notes, Notes.too_few_text, Printed.CutsOff, Saying.EndsAnswering, Saying.IsTold, Saying.SaysAt, Saying.SaysLast};
+ghost use Rattle.tcc_print.specs.declared.status.Status.TheVariants as statuses;
+ghost use Rattle.tcc_reads.specs.{History.count, Sources.history};
 ghost use Rattle.tcc_watch_run.specs.private.Stages.{course};
 
+use crate::counting::committed_of;
 use crate::told::Told;
+use std::alloc::Global;
 use std::io::Write;
 use tcc_base::send;
 use tcc_print::notes::note_reads;
@@ -44,9 +48,9 @@ pub(crate) fn print_new<T, G, W: Write, N: Write>(
     notes: &mut N,
 ) -> Result<PreviousAnswer<Told>, u8>
     ensures kept { IfOk result (λ last. found ≡ Ok last.outcome) }
-    ensures said { (checkpoints : List Sessions) → IfOk found (IsTold (course run.now.options.now checkpoints) snapshot.now)
-        → MatchResult result (SaysLast (course run.now.options.now checkpoints) snapshot.now (W.contents out.old) (W.contents out.new))
-        (EndsAnswering (course run.now.options.now checkpoints) snapshot.now (W.contents out.old) (W.contents out.new)) }
+    ensures said { (quiet : Bool) (checkpoints : List Sessions) → IfOk found (IsTold (course quiet run.now.options.now checkpoints) snapshot.now)
+        → MatchResult result (SaysLast (course quiet run.now.options.now checkpoints) snapshot.now (W.contents out.old) (W.contents out.new))
+        (EndsAnswering (course quiet run.now.options.now checkpoints) snapshot.now (W.contents out.old) (W.contents out.new)) }
     ensures noted { IfOk result (λ last. AddsEach (N.contents notes.old) (N.contents notes.new) (read_notes snapshot.now last.outcome.faults.items)) }
 {
     match found {
@@ -72,8 +76,8 @@ pub(crate) fn print_unchanged<T, G, W: Write, N: Write>(
     notes: &mut N,
 ) -> Result<PreviousAnswer<Told>, u8>
     ensures kept { IfOk result (λ now. now ≡ last) }
-    ensures said { (checkpoints : List Sessions) → last.transactions ≡ transaction_count snapshot.now
-        → SaysAt (course run.now.options.now checkpoints) checkpoint snapshot.now (Some last) (W.contents out.old) (W.contents out.new) result }
+    ensures said { (quiet : Bool) (checkpoints : List Sessions) → last.transactions ≡ transaction_count snapshot.now
+        → SaysAt (course quiet run.now.options.now checkpoints) checkpoint snapshot.now (Some last) (W.contents out.old) (W.contents out.new) result }
     ensures noted { checkpoint ≡ checkpoints.Seal
         → IfOk result (λ last. AddsEach (N.contents notes.old) (N.contents notes.new) (read_notes snapshot.now last.outcome.faults.items)) }
 {
@@ -83,5 +87,34 @@ pub(crate) fn print_unchanged<T, G, W: Write, N: Write>(
             Ok(last)
         }
         Checkpoint::End => Ok(last),
+    }
+}
+
+/// The note of a consistent snapshot that has fewer transactions than are required.
+fn too_few(alloc: Global, required: u32, snapshot: &LargeSnapshot) -> Result<Vec<u8>, NoMemory>
+    ensures { IfOk result (λ text. text.items ≡ too_few_text required (count (history snapshot.now) - 1)) }
+{
+    let transactions = committed_of(snapshot)?;
+    let text = format!(in alloc; "--require {required}: only {transactions} transactions\n")?;
+    Ok(text.into_bytes())
+}
+
+/// Notes of what was said of the snapshot that it has fewer transactions than are required, where it has.
+pub(crate) fn note_few<T, G, N: Write>(
+    run: &RunContext<T, G>,
+    snapshot: &LargeSnapshot,
+    told: &Told,
+    notes: &mut N,
+)
+    ensures few { told.now.status ≡ statuses.TooFew
+        → IsNoted (N.contents notes.old) (N.contents notes.new) (too_few_text run.now.options.now.required (count (history snapshot.now) - 1)) }
+    ensures enough { told.now.status ≢ statuses.TooFew → N.contents notes.new ≡ N.contents notes.old }
+{
+    if told.status != Status::TooFew {
+        return;
+    }
+    if let Ok(text) = too_few(run.alloc, run.options.required, snapshot) {
+        // What standard error takes changes nothing.
+        let _ = send(notes, &text);
     }
 }

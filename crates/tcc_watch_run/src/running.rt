@@ -1,23 +1,25 @@
 //! From the bytes of records to what is said at each seal, and at the end.
-ghost use Rattle.std.specs.Prelude.{◌≡◌, ◌≢◌, ℕ, List, [], None, IfOk, IfSome, MatchResult, OnOk};
-ghost use Rattle.tcc_rows.specs.{Ahead.fault_met, Reached.IsWithin, Recordings.IsRecording};
+ghost use Rattle.std.specs.Prelude.{◌≡◌, ℕ, Bool, List, [], None, IfErr, IfSome, MatchResult, OnOk};
+ghost use Rattle.tcc_rows.specs.{Ahead.fault_met, Answers.Answers, Answers.answers_to, Lines.Record, Reached.IsWithin, declared.rows.Item.Item};
+ghost use Rattle.tcc_rows.specs.Recordings.{FailsBehind, IsRecording, TakesCheckpoint, after_items};
 ghost use Rattle.tcc_txn.specs.{Nested.IsNested, Snapshots.Sessions, declared.limits.Limits.TheVariants.Large};
 ghost use Rattle.tcc_run.specs.LargeRuns.{answers_of, records_of};
-ghost use Rattle.tcc_print.specs.{Saying.IsTold, Saying.SaysAt, private.Courses.AllAnswered, private.Courses.EndsEarly};
+ghost use Rattle.tcc_print.specs.{Saying.SaysAt, private.Courses.AllAnswered, private.Courses.EndsEarly};
 ghost use Rattle.tcc_watch_run.specs.Watching.{IsWatchRun, checkpoints_of};
-ghost use Rattle.tcc_watch_run.specs.private.Following.{HasCaughtUp, IsFollowing};
-ghost use Rattle.tcc_watch_run.specs.private.Stages.{Knows, KnowsLast, course, was_told};
+ghost use Rattle.tcc_watch_run.specs.private.Following.{IsAtStart, IsFollowing};
+ghost use Rattle.tcc_watch_run.specs.private.Stages.{IsRunBy, KnowsLast, course, follower_of, is_quiet, was_told};
 
+use crate::answering::Answerer;
 use crate::following::Follower;
-use crate::printing::{print_new, print_unchanged};
+use crate::printing::{note_few, print_new, print_unchanged};
 use crate::told::Told;
 use std::alloc::Global;
 use std::io::{Read, Write};
 use std::thread::Threads;
 use tcc_print::printing::{print_endless, print_memory};
 use tcc_print::{Options, PreviousAnswer, RunContext, unchanged};
-use tcc_rows::{Checkpoint, LargeRecording};
-use tcc_run::Watcher;
+use tcc_rows::{Checkpoint, LargeRecording, RowFault, RowFaultKind};
+use tcc_run::{Stage, Watcher};
 use tcc_txn::{LargeSnapshot, NoMemory};
 use tcc_verdict::stop;
 
@@ -31,76 +33,81 @@ fn was_told(last: &Option<PreviousAnswer<Told>>) -> bool
     }
 }
 
-/// Takes what is new in the snapshot, and returns what is to be said of all that it has, where an anomaly was reported before or not.
-fn follow<T: Threads + Sync, G: Watcher>(
-    run: &RunContext<T, G>,
-    follower: &mut Follower,
-    snapshot: &LargeSnapshot,
-    has_told: bool,
-) -> Result<Told, NoMemory>
-    requires following { IsFollowing follower.old }
-    requires nested { IsNested follower.old.watch snapshot.now }
-    ensures told { (checkpoints : List Sessions) → Knows run.now.options.now checkpoints snapshot.now has_told
-        → IfOk result (IsTold (course run.now.options.now checkpoints) snapshot.now) }
-    ensures followed { OnOk result (HasCaughtUp follower.new snapshot.now) }
-{
-    follower.catch_up(run.alloc, snapshot)?;
-    Told::of(run, follower, snapshot, has_told)
-}
-
 /// Says at a checkpoint of the recording what is to be said of the snapshot, and returns it: what was said last, if nothing was finished
 /// since. An error is the code with which the run ends.
 fn answer_checkpoint<T: Threads + Sync, W: Write, N: Write, G: Watcher>(
     run: &RunContext<T, G>,
     checkpoint: Checkpoint,
-    follower: &mut Follower,
+    answerer: &mut Answerer,
     snapshot: &LargeSnapshot,
     last: Option<PreviousAnswer<Told>>,
     out: &mut W,
     notes: &mut N,
 ) -> Result<PreviousAnswer<Told>, u8>
-    requires following { IsFollowing follower.old }
-    requires nested { IsNested follower.old.watch snapshot.now }
-    ensures said { (checkpoints : List Sessions) → KnowsLast run.now.options.now checkpoints snapshot.now last
-        → SaysAt (course run.now.options.now checkpoints) checkpoint snapshot.now last (W.contents out.old) (W.contents out.new) result }
-    ensures follows { OnOk result (IsFollowing follower.new) }
-    ensures nests { OnOk result (IsNested follower.new.watch snapshot.now) }
+    requires following { IsFollowing (follower_of answerer.old) }
+    requires nested { IsNested (follower_of answerer.old).watch snapshot.now }
+    ensures said { (quiet : Bool) (checkpoints : List Sessions) → is_quiet answerer.old ≡ quiet → KnowsLast run.now.options.now checkpoints snapshot.now last
+        → SaysAt (course quiet run.now.options.now checkpoints) checkpoint snapshot.now last (W.contents out.old) (W.contents out.new) result }
+    ensures quiet { is_quiet answerer.new ≡ is_quiet answerer.old }
+    ensures follows { OnOk result (IsFollowing (follower_of answerer.new)) }
+    ensures nests { OnOk result (IsNested (follower_of answerer.new).watch snapshot.now) }
 {
     match unchanged(last, snapshot.transactions()) {
         Ok(last) => print_unchanged(run, checkpoint, snapshot, last, out, notes),
         Err(earlier) => {
             let has_told = was_told(&earlier);
             drop(earlier);
-            let found = follow(run, follower, snapshot, has_told);
+            let found = answerer.answer(run, snapshot, has_told);
             print_new(run, snapshot, found, out, notes)
         }
     }
+}
+
+/// Reads on to the next seal or to the end. The watcher is called when this begins and when it ends.
+fn read_on<R: Read + Drop, T, G: Watcher>(
+    run: &RunContext<T, G>,
+    recording: &mut LargeRecording<R>,
+) -> Result<Checkpoint, RowFault>
+    ensures checkpoint { (taken : List Item) (ahead : Answers) → IsRecording Large R.remaining recording.old taken ahead
+        → TakesCheckpoint Large R.remaining taken ahead result recording.new }
+    ensures within { (all : List Record) → IsWithin R.remaining recording.old.rows all → IsWithin R.remaining recording.new.rows all }
+    ensures continues { IsNested recording.old.snapshot recording.new.snapshot }
+    ensures failed { IfErr result (λ fault. fault_met recording.old.rows ≡ None → fault.kind ≡ RowFaultKind.Read
+        → (all : List Record) (taken : List Item) (ahead : Answers) → answers_to Large all ≡ after_items taken ahead
+        → IsWithin R.remaining recording.old.rows all → IsRecording Large R.remaining recording.old taken ahead
+        → FailsBehind Large taken fault.row all) }
+    ensures goes_on { OnOk result (fault_met recording.new.rows ≡ None) }
+{
+    run.gate.begin(Stage::Reading);
+    let checkpoint = recording.advance(run.alloc);
+    run.gate.end();
+    checkpoint
 }
 
 /// Says what is to be said at the seals that are still to come, and at the end, if it is due. It returns what was said last. Where the
 /// run ends before, it writes what ends it, and the error is the code with which it ends.
 fn answer_all<R: Read + Drop, T: Threads + Sync, W: Write, N: Write, G: Watcher>(
     run: &RunContext<T, G>,
-    follower: &mut Follower,
+    answerer: &mut Answerer,
     recording: &mut LargeRecording<R>,
     out: &mut W,
     notes: &mut N,
 ) -> Result<PreviousAnswer<Told>, u8>
-    requires following { IsFollowing follower.old }
-    requires nested { IsNested follower.old.watch recording.old.snapshot }
+    requires following { IsFollowing (follower_of answerer.old) }
+    requires nested { IsNested (follower_of answerer.old).watch recording.old.snapshot }
     ensures { (bytes : List ℕ) → IsRecording Large R.remaining recording.old [] (answers_of bytes) → IsWithin R.remaining recording.old.rows (records_of bytes)
         → fault_met recording.old.rows ≡ None
-        → MatchResult result (AllAnswered (course run.now.options.now (checkpoints_of bytes)) bytes (W.contents out.old) (W.contents out.new))
-        (EndsEarly (course run.now.options.now (checkpoints_of bytes)) bytes (W.contents out.old) (W.contents out.new)) }
+        → MatchResult result (AllAnswered (course (is_quiet answerer.old) run.now.options.now (checkpoints_of bytes)) bytes (W.contents out.old) (W.contents out.new))
+        (EndsEarly (course (is_quiet answerer.old) run.now.options.now (checkpoints_of bytes)) bytes (W.contents out.old) (W.contents out.new)) }
 {
     let mut last: Option<PreviousAnswer<Told>> = None;
     'checkpoints: for _turn in 0..u64::MAX {
-        match recording.advance(run.alloc) {
+        match read_on(run, recording) {
             Ok(checkpoint) => {
                 let said = answer_checkpoint(
                     run,
                     checkpoint,
-                    follower,
+                    answerer,
                     recording.snapshot(),
                     last,
                     out,
@@ -119,41 +126,46 @@ fn answer_all<R: Read + Drop, T: Threads + Sync, W: Write, N: Write, G: Watcher>
     Err(print_endless(out, run.options.json))
 }
 
-/// The run of a recording that has just begun, with a watch that has taken nothing.
-fn run_followed<R: Read + Drop, T: Threads + Sync, W: Write, N: Write, G: Watcher>(
+/// The run of a recording that has just begun. Where the last history is consistent and has fewer transactions than are required, this is
+/// noted.
+fn run_recording<R: Read + Drop, T: Threads + Sync, W: Write, N: Write, G: Watcher>(
     run: &RunContext<T, G>,
-    follower: &mut Follower,
+    answerer: &mut Answerer,
     recording: &mut LargeRecording<R>,
     out: &mut W,
     notes: &mut N,
 ) -> u8
-    requires following { IsFollowing follower.old }
-    requires nested { IsNested follower.old.watch recording.old.snapshot }
+    requires following { IsFollowing (follower_of answerer.old) }
+    requires nested { IsNested (follower_of answerer.old).watch recording.old.snapshot }
     ensures { (bytes : List ℕ) → IsRecording Large R.remaining recording.old [] (answers_of bytes) → IsWithin R.remaining recording.old.rows (records_of bytes)
         → fault_met recording.old.rows ≡ None
-        → IsWatchRun run.now.options.now bytes (W.contents out.old) (W.contents out.new) result }
+        → IsRunBy (is_quiet answerer.old) run.now.options.now bytes (W.contents out.old) (W.contents out.new) result }
 {
-    match answer_all(run, follower, recording, out, notes) {
-        Ok(last) => last.outcome.status.code(),
+    match answer_all(run, answerer, recording, out, notes) {
+        Ok(last) => {
+            note_few(run, recording.snapshot(), &last.outcome, notes);
+            last.outcome.status.code()
+        }
         Err(code) => code,
     }
 }
 
-/// The run of a recording that has just begun.
-fn run_recording<R: Read + Drop, T: Threads + Sync, W: Write, N: Write, G: Watcher>(
+/// The run of a reader's records, which are answered by what has taken nothing yet.
+pub(crate) fn run_reader<R: Read + Drop, T: Threads + Sync, W: Write, N: Write, G: Watcher>(
     run: &RunContext<T, G>,
-    recording: &mut LargeRecording<R>,
+    answerer: &mut Answerer,
+    reader: R,
     out: &mut W,
     notes: &mut N,
 ) -> u8
-    ensures { (bytes : List ℕ) → IsRecording Large R.remaining recording.old [] (answers_of bytes) → IsWithin R.remaining recording.old.rows (records_of bytes)
-        → fault_met recording.old.rows ≡ None
-        → IsWatchRun run.now.options.now bytes (W.contents out.old) (W.contents out.new) result }
+    requires following { IsFollowing (follower_of answerer.old) }
+    requires start { IsAtStart (follower_of answerer.old) }
+    ensures { IfSome (R.remaining reader) (λ bytes. IsRunBy (is_quiet answerer.old) run.now.options.now bytes (W.contents out.old) (W.contents out.new) result) }
 {
-    match Follower::new(run.alloc) {
-        Ok(follower) => {
-            let mut follower = follower;
-            run_followed(run, &mut follower, recording, out, notes)
+    match LargeRecording::new(run.alloc, reader) {
+        Ok(recording) => {
+            let mut recording = recording;
+            run_recording(run, answerer, &mut recording, out, notes)
         }
         Err(NoMemory) => print_memory(out, run.options.json),
     }
@@ -175,16 +187,16 @@ pub fn run_watch<R: Read + Drop, W: Write, N: Write, G: Watcher>(
 ) -> u8
     ensures { IfSome (R.remaining reader) (λ bytes. IsWatchRun options bytes (W.contents out.old) (W.contents out.new) result) }
 {
-    match LargeRecording::new(alloc, reader) {
-        Ok(recording) => {
-            let mut recording = recording;
+    match Follower::new(alloc) {
+        Ok(follower) => {
             let run = RunContext {
                 rt,
                 alloc,
                 options: &options,
                 gate: watcher,
             };
-            run_recording(&run, &mut recording, out, notes)
+            let mut answerer = Answerer::Watch(follower);
+            run_reader(&run, &mut answerer, reader, out, notes)
         }
         Err(NoMemory) => print_memory(out, options.json),
     }

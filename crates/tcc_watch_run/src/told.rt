@@ -1,13 +1,13 @@
 //! What a watch says of a snapshot.
-ghost use Rattle.std.specs.Prelude.{◌≡◌, ◌+◌, true, IfOk, List};
+ghost use Rattle.std.specs.Prelude.{◌≡◌, ◌+◌, false, true, IfOk, List};
 ghost use Rattle.tcc_print.specs.{Courses.AreSaidFaults, Saying.IsTold, Statuses.order_status};
 ghost use Rattle.tcc_reads.specs.{History.count, Sources.history};
 ghost use Rattle.tcc_txn.specs.Snapshots.{Sessions};
-ghost use Rattle.tcc_watch_run.specs.private.Following.{HasCaughtUp};
+ghost use Rattle.tcc_watch.specs.Verdicts.{IsVerdict};
 ghost use Rattle.tcc_watch_run.specs.private.Stages.{IsAsExplained, Knows, course, told_said};
 ghost use Rattle.tcc_watch_run.specs.Watching.{consistent_said, still_said};
 
-use crate::following::Follower;
+use crate::counting::committed_of;
 use crate::lines::{consistent_line, still_line};
 use std::alloc::Global;
 use std::thread::Threads;
@@ -101,38 +101,82 @@ fn explained<T: Threads + Sync, G: Watcher>(
 }
 
 impl Told {
-    /// What is to be said of the snapshot that the watch has followed, where an anomaly was reported before or not. The watch knows
-    /// whether its history is consistent, and whether an anomaly is still there. Else all of it is explained.
+    /// What is to be said of the snapshot, of which the verdict is known, and how many transactions are committed; where an anomaly was
+    /// reported before or not. A consistent history has one line, and so has an anomaly that is still there. Else all of it is explained.
     pub(crate) fn of<T: Threads + Sync, G: Watcher>(
         run: &RunContext<T, G>,
-        follower: &Follower,
+        verdict: Verdict,
+        committed: usize,
         snapshot: &LargeSnapshot,
         has_told: bool,
     ) -> Result<Told, NoMemory>
-        requires { HasCaughtUp follower.now snapshot.now }
+        requires verdict { IsVerdict snapshot.now run.now.options.now.level verdict }
+        requires counted { committed + 1 ≡ count (history snapshot.now) }
         ensures told { (checkpoints : List Sessions) → Knows run.now.options.now checkpoints snapshot.now has_told
-            → IfOk result (IsTold (course run.now.options.now checkpoints) snapshot.now) }
+            → IfOk result (IsTold (course false run.now.options.now checkpoints) snapshot.now) }
         ensures faults { IfOk result (λ told. AreSaidFaults run.now.options.now (told_said told) told.faults.items) }
     {
-        let verdict = follower.watch.answer(run.alloc, run.options.level)?;
         match verdict {
             Verdict::Consistent => {
-                consistent(
-                    run.alloc,
-                    run.options,
-                    follower.committed,
-                    snapshot,
-                    has_told,
-                )
+                consistent(run.alloc, run.options, committed, snapshot, has_told)
             }
             Verdict::Anomaly => {
                 if has_told {
-                    still(run.alloc, run.options, follower.committed, snapshot)
+                    still(run.alloc, run.options, committed, snapshot)
                 } else {
                     explained(run, snapshot, true)
                 }
             }
             Verdict::Unresolved => explained(run, snapshot, has_told),
+        }
+    }
+
+    /// What is to be said quietly of the snapshot, of which the verdict is known, and how many transactions are committed; where an
+    /// anomaly was reported before or not. A consistent history has one line. Else all of it is explained.
+    pub(crate) fn quietly<T: Threads + Sync, G: Watcher>(
+        run: &RunContext<T, G>,
+        verdict: Verdict,
+        committed: usize,
+        snapshot: &LargeSnapshot,
+        was_told: bool,
+    ) -> Result<Told, NoMemory>
+        requires verdict { IsVerdict snapshot.now run.now.options.now.level verdict }
+        requires counted { committed + 1 ≡ count (history snapshot.now) }
+        ensures told { (checkpoints : List Sessions) → Knows run.now.options.now checkpoints snapshot.now was_told
+            → IfOk result (IsTold (course true run.now.options.now checkpoints) snapshot.now) }
+        ensures faults { IfOk result (λ told. AreSaidFaults run.now.options.now (told_said told) told.faults.items) }
+    {
+        match verdict {
+            Verdict::Consistent => {
+                consistent(run.alloc, run.options, committed, snapshot, was_told)
+            }
+            Verdict::Anomaly => explained(run, snapshot, true),
+            Verdict::Unresolved => explained(run, snapshot, was_told),
+        }
+    }
+
+    /// The same, where no verdict is known: all of it is explained, and says whether it is consistent.
+    pub(crate) fn anew<T: Threads + Sync, G: Watcher>(
+        run: &RunContext<T, G>,
+        snapshot: &LargeSnapshot,
+        was_told: bool,
+    ) -> Result<Told, NoMemory>
+        ensures told { (checkpoints : List Sessions) → Knows run.now.options.now checkpoints snapshot.now was_told
+            → IfOk result (IsTold (course true run.now.options.now checkpoints) snapshot.now) }
+        ensures faults { IfOk result (λ told. AreSaidFaults run.now.options.now (told_said told) told.faults.items) }
+    {
+        let told = explained(run, snapshot, was_told)?;
+        match told.status {
+            Status::Success | Status::TooFew => {
+                drop(told);
+                let committed = committed_of(snapshot)?;
+                consistent(run.alloc, run.options, committed, snapshot, was_told)
+            }
+            Status::Anomaly => Ok(Told {
+                has_told: true,
+                ..told
+            }),
+            _ => Ok(told),
         }
     }
 }

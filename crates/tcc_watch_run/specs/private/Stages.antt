@@ -1,14 +1,21 @@
 -- How the stages of a run follow one another.
-use Rattle.std.specs.Prelude.{◌≡◌, ◌≢◌, ◌⊎◌, Bool, true, false, List, Option, None, Some, IfSome}
+use Rattle.std.specs.Prelude.{ℕ, ◌≡◌, ◌≢◌, ◌⊎◌, Bool, true, false, List, Option, None, Some, IfSome}
+use Rattle.std.specs.Io.KnownBytes.{Appends}
 use Rattle.tcc_txn.specs.Finished.{transaction_count}
 use Rattle.tcc_txn.specs.Snapshots.{Sessions}
 use Rattle.tcc_txn.specs.declared.limits.Limits.TheVariants.{Large}
 use Rattle.tcc_run.specs.LargeRuns.{IsSaidWithLarge}
-use Rattle.tcc_print.specs.Courses.{Said}
+use Rattle.tcc_print.specs.Courses.{IsCourse, Said}
+use Rattle.tcc_print.specs.Printed.{CutsOff}
 use Rattle.tcc_print.specs.Saying.{Course}
+use Rattle.tcc_print.specs.Statuses.{code_of}
 use Rattle.tcc_print.specs.declared.previous.PreviousAnswer.{PreviousAnswer}
 use Rattle.tcc_print.specs.declared.options.Options.{Options}
-use Rattle.tcc_watch_run.specs.Watching.{IsAnomaly, IsWatched, WasAnomaly}
+use Rattle.tcc_watch_run.specs.Quiet.{IsQuietlySaid}
+use Rattle.tcc_watch_run.specs.Watching.{IsAnomaly, IsWatched, WasAnomaly, checkpoints_of}
+use Rattle.tcc_watch_run.specs.declared.answering.Answerer.{Answerer}
+use Rattle.tcc_watch_run.specs.declared.answering.Answerer.TheVariants as answerer
+use Rattle.tcc_watch_run.specs.declared.following.Follower.{Follower}
 use Rattle.tcc_watch_run.specs.declared.told.Told.{Told}
 
 -- what is said
@@ -39,12 +46,33 @@ abbrev pub KnowsLast : Options → List Sessions → Sessions → Option (Previo
 KnowsLast options checkpoints s last =
     IfSome last (λ last. last.transactions ≢ transaction_count s) → Knows options checkpoints s (was_told last)
 
--- the course of a run that answers of these snapshots
-abbrev pub course : Options → List Sessions → Course Told
-course options checkpoints = record {
+-- what is said of a snapshot: quietly, or as a watch says it that answers of these
+abbrev pub IsSaidBy : Bool → Options → List Sessions → Sessions → Said → Type 0
+IsSaidBy true options checkpoints = IsQuietlySaid options
+IsSaidBy false options checkpoints = IsWatched options checkpoints
+
+-- whether it says each anomaly in full
+abbrev pub is_quiet : Answerer → Bool
+is_quiet (answerer.Watch follower) = false
+is_quiet (answerer.Quiet quietly) = true
+
+-- its watch
+abbrev pub follower_of : Answerer → Follower
+follower_of (answerer.Watch follower) = follower
+follower_of (answerer.Quiet quietly) = quietly.follower
+
+-- the course of a run that answers of these snapshots, quietly or not
+abbrev pub course : Bool → Options → List Sessions → Course Told
+course quiet options checkpoints = record {
   limits = Large;
   options = options;
-  is_said = IsWatched options checkpoints;
+  is_said = IsSaidBy quiet options checkpoints;
   is_outcome = λ s told. KnowsNow options checkpoints s told.has_told;
   say = told_said;
 }
+
+-- what a run does with the bytes, quietly or as a watch
+abbrev pub IsRunBy : Bool → Options → List ℕ → Option (List ℕ) → Option (List ℕ) → ℕ → Type 0
+IsRunBy quiet options bytes before after code =
+    IsCourse Large (IsSaidBy quiet options (checkpoints_of bytes)) options bytes
+    (λ text last. (Appends before after text × (code ≡ code_of last.status)) ⊎ CutsOff before after text code)

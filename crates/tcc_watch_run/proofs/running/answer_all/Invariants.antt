@@ -10,16 +10,17 @@ use Rattle.tcc_run.specs.LargeRuns.{answers_of}
 use Rattle.tcc_print.proofs.Courses.{HasAnswered}
 use Rattle.tcc_watch_run.specs.Watching.{checkpoints_of}
 use Rattle.tcc_watch_run.specs.private.Following.{IsFollowing}
-use Rattle.tcc_watch_run.specs.private.Stages.{course}
+use Rattle.tcc_watch_run.specs.private.Stages.{course, follower_of, is_quiet}
 use Rattle.tcc_watch_run.proofs.running.answer_all.Given as goal
 
 abbrev pub invariant-checkpoints : goal.invariant-checkpoints
 invariant-checkpoints g l = record {
   way : (text : List ℕ) → IsRecording Large g.R.Read.remaining l.initial.recording [] (answers_of text)
-      → HasAnswered g.R.Read.remaining (course l.run.options.now (checkpoints_of text)) text l.recording (g.W.Write.contents l.initial.out) (g.W.Write.contents l.out)
+      → HasAnswered g.R.Read.remaining (course (is_quiet l.initial.answerer) l.run.options.now (checkpoints_of text)) text l.recording (g.W.Write.contents l.initial.out) (g.W.Write.contents l.out)
       l.last;
   within : (records : List Record) → IsWithin g.R.Read.remaining l.initial.recording.rows records → IsWithin g.R.Read.remaining l.recording.rows records;
   going : fault_met l.initial.recording.rows ≡ None → fault_met l.recording.rows ≡ None;
-  following : IsFollowing l.follower;
-  nested : IsNested l.follower.watch l.recording.snapshot;
+  quiet : is_quiet l.answerer ≡ is_quiet l.initial.answerer;
+  following : IsFollowing (follower_of l.answerer);
+  nested : IsNested (follower_of l.answerer).watch l.recording.snapshot;
 }

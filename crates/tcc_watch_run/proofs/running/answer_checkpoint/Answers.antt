@@ -1,32 +1,32 @@
--- What was said last is said again. Where something was finished since, the watch takes it, and what is to be said is found anew.
+-- What was said last is said again. Where something was finished since, it is answered.
 use Rattle.std.proofs.Common.{◌≡◌, ◌≢◌, ◌∙◌, ap, subst, sym}
 use Rattle.std.specs.Prelude.{Bool, IfSome}
 use Rattle.tcc_print.proofs.Saying.{says_at, says_still}
-use Rattle.tcc_txn.proofs.Growing.{ok-then}
-use Rattle.tcc_watch_run.specs.private.Following.{HasCaughtUp}
-use Rattle.tcc_watch_run.specs.private.Stages.{Knows, course, was_told}
-use Rattle.tcc_watch_run.proofs.Runs.{follows, nests, on_kept}
+use Rattle.tcc_txn.specs.Nested.{IsNested}
+use Rattle.tcc_watch_run.specs.private.Following.{IsFollowing}
+use Rattle.tcc_watch_run.specs.private.Stages.{Knows, course, follower_of, was_told}
+use Rattle.tcc_watch_run.proofs.Runs.{on_kept}
 use Rattle.tcc_watch_run.proofs.running.answer_checkpoint.Goals as goal
 
 pub returns-in-Ok-clause-said : goal.returns-in-Ok-clause-said
-returns-in-Ok-clause-said g c checkpoints knows =
-    says_still (course c.args.run.now.options.now checkpoints) c.args.checkpoint c.args.snapshot.now c.args.last c.in-Ok.last _ _ c.print_unchanged.result c.in-Ok.ensures.0
-    (c.print_unchanged.ensures.said checkpoints (c.in-Ok.ensures.1 ∙ c.transactions.ensures.value))
+returns-in-Ok-clause-said g c quiet checkpoints is knows =
+    says_still (course quiet c.args.run.now.options.now checkpoints) c.args.checkpoint c.args.snapshot.now c.args.last c.in-Ok.last _ _
+    c.print_unchanged.result c.in-Ok.ensures.0
+    (c.print_unchanged.ensures.said quiet checkpoints (c.in-Ok.ensures.1 ∙ c.transactions.ensures.value))
 
 pub returns-in-Err-clause-said : goal.returns-in-Err-clause-said
-returns-in-Err-clause-said g c checkpoints knows =
+returns-in-Err-clause-said g c quiet checkpoints is knows =
     let apart = subst (λ n. IfSome c.args.last (λ last. last.transactions ≢ n)) c.transactions.ensures.value c.in-Err.ensures.1 in
     let told : was_told c.args.last ≡ c.was_told-has_told.result = sym (c.was_told-has_told.ensures ∙ ap was_told c.in-Err.ensures.0) in
-    says_at (course c.args.run.now.options.now checkpoints) c.args.checkpoint c.args.snapshot.now c.args.last _ _ c.print_new.result apart
-    (c.print_new.ensures.said checkpoints
-    (c.follow-found.ensures.told checkpoints (subst (λ (b : Bool). Knows c.args.run.now.options.now checkpoints c.args.snapshot.now b) told (knows apart))))
+    says_at (course quiet c.args.run.now.options.now checkpoints) c.args.checkpoint c.args.snapshot.now c.args.last _ _ c.print_new.result apart
+    (c.print_new.ensures.said quiet checkpoints
+    (c.answer-found.ensures.told quiet checkpoints is (subst (λ (b : Bool). Knows c.args.run.now.options.now checkpoints c.args.snapshot.now b) told (knows apart))))
 
 pub returns-in-Err-clause-follows : goal.returns-in-Err-clause-follows
 returns-in-Err-clause-follows g c =
-    ok-then c.print_new.result (follows c.follow-found.new.follower c.args.snapshot.now)
-    (on_kept (HasCaughtUp c.follow-found.new.follower c.args.snapshot.now) c.print_new.result c.follow-found.result c.print_new.ensures.kept c.follow-found.ensures.followed)
+    on_kept (IsFollowing (follower_of c.answer-found.new.self)) c.print_new.result c.answer-found.result c.print_new.ensures.kept c.answer-found.ensures.follows
 
 pub returns-in-Err-clause-nests : goal.returns-in-Err-clause-nests
 returns-in-Err-clause-nests g c =
-    ok-then c.print_new.result (nests c.follow-found.new.follower c.args.snapshot.now)
-    (on_kept (HasCaughtUp c.follow-found.new.follower c.args.snapshot.now) c.print_new.result c.follow-found.result c.print_new.ensures.kept c.follow-found.ensures.followed)
+    on_kept (IsNested (follower_of c.answer-found.new.self).watch c.args.snapshot.now) c.print_new.result c.answer-found.result
+    c.print_new.ensures.kept c.answer-found.ensures.nests

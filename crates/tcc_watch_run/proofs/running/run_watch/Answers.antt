@@ -1,3 +1,4 @@
+use Rattle.std.specs.Prelude.{false}
 use Rattle.tcc_verdict.proofs.Checked.{for_any}
 use Rattle.tcc_print.proofs.Courses.{nothing_read}
 use Rattle.tcc_watch_run.specs.Watching.{checkpoints_of}
@@ -8,4 +9,5 @@ use Rattle.tcc_watch_run.proofs.running.run_watch.Goals as goal
 pub returns-in-Err : goal.returns-in-Err
 returns-in-Err g c =
     for_any (g.R.Read.remaining c.args.reader)
-    (λ text. early c.args.options text _ _ c.print_memory.result (nothing_read (course c.args.options (checkpoints_of text)) text _ _ c.print_memory.result c.print_memory.ensures))
+    (λ text. early false c.args.options text _ _ c.print_memory.result
+    (nothing_read (course false c.args.options (checkpoints_of text)) text _ _ c.print_memory.result c.print_memory.ensures))

@@ -1,0 +1,12 @@
+use Rattle.tcc_verdict.proofs.Checked.{for_any}
+use Rattle.tcc_print.proofs.Courses.{nothing_read}
+use Rattle.tcc_watch_run.specs.Watching.{checkpoints_of}
+use Rattle.tcc_watch_run.specs.private.Stages.{course, is_quiet}
+use Rattle.tcc_watch_run.proofs.Runs.{early}
+use Rattle.tcc_watch_run.proofs.running.run_reader.Goals as goal
+
+pub returns-in-Err : goal.returns-in-Err
+returns-in-Err g c =
+    for_any (g.R.Read.remaining c.args.reader)
+    (λ text. early (is_quiet c.args.answerer.now) c.args.run.now.options.now text _ _ c.print_memory.result
+    (nothing_read (course (is_quiet c.args.answerer.now) c.args.run.now.options.now (checkpoints_of text)) text _ _ c.print_memory.result c.print_memory.ensures))
