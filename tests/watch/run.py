@@ -92,13 +92,20 @@ def records_of(dice: random.Random, shape: Shape) -> List[str]:
     return records
 
 
+class Count(NamedTuple):
+    """How many transactions are committed, of how many sessions, and how many are aborted."""
+    committed: int
+    sessions: int
+    aborted: int
+
+
 class Counted:
     """What records have finished: how many transactions count, and of which sessions."""
 
     def __init__(self) -> None:
         self.open: Dict[str, List[str]] = {}
         self.finished: Set[str] = set()
-        self.committed = 0
+        self.committed = self.aborted = 0
         self.read: Set[Tuple[str, str]] = set()
         self.pending: List[Tuple[str, List[str]]] = []
 
@@ -110,6 +117,7 @@ class Counted:
             self.commit(session, self.open.pop(session))
         elif line == "abort":
             self.finished.add(session)
+            self.aborted += 1
             del self.open[session]
         elif line == "unknown":
             self.pending.append((session, [one for one in self.open.pop(session) if one.startswith("w,")]))
@@ -121,17 +129,17 @@ class Counted:
         self.committed += 1
         self.read.update(tuple(line.split(",")[1:]) for line in lines if line.startswith("r,"))
 
-    def settle(self) -> Tuple[int, int]:
-        """At an answer: those of unknown outcome of which a value was read count. How many transactions and sessions there are."""
+    def settle(self) -> Count:
+        """At an answer: those of unknown outcome of which a value was read count. How many there are."""
         for one in self.pending[:]:
             if any(tuple(line.split(",")[1:]) in self.read for line in one[1]):
                 self.pending.remove(one)
                 self.commit(*one)
-        return self.committed, len(self.finished)
+        return Count(self.committed, len(self.finished), self.aborted)
 
 
-def counts_of(records: List[str]) -> List[Tuple[int, int]]:
-    """How many transactions and sessions there are at each seal, and at the end."""
+def counts_of(records: List[str]) -> List[Count]:
+    """How many transactions there are at each seal, and at the end."""
     counted, counts = Counted(), []
     for record in records:
         if record == "seal":
@@ -175,7 +183,7 @@ def answers_in(text: str) -> List[str]:
     return answers
 
 
-def wanted_of(explained: List[str], counts: List[Tuple[int, int]]) -> List[str]:
+def wanted_of(explained: List[str], counts: List[Count]) -> List[str]:
     """What a watch has to say, by what `explain` says: of each anomaly after the first one that there still is one. A seal with
     nothing new has the last answer again."""
     wanted: List[str] = []
@@ -187,7 +195,7 @@ def wanted_of(explained: List[str], counts: List[Tuple[int, int]]) -> List[str]:
             first = count
             wanted.append(text)
         else:
-            wanted.append("anomaly: still, %d transactions, %d sessions\n" % count)
+            wanted.append("anomaly: still, %d transactions, %d sessions\n" % count[:2])
     return wanted
 
 
@@ -245,7 +253,7 @@ def of_history(tcc: List[str], number: int, level: str, records: List[str]) -> I
     got = printed(tcc, ["watch", "--level", level], records)
     yield name, difference("watch", wanted_of(answers_in(explained.text), counts), answers_in(got.text))
     yield name, None if explained.status == got.status else "status %d, of explain %d" % (got.status, explained.status)
-    required = counts[-1][0] + number % 3 - 1
+    required = counts[-1].committed + number % 3 - 1
     yield from quietly(tcc, ["--level", level, "--require", str(max(required, 1))], records, name)
     if number % ALONE == 0:
         by_itself = alone(tcc, level, records)
