@@ -99,6 +99,7 @@ class Counted:
         self.open: Dict[str, List[str]] = {}
         self.finished: Set[str] = set()
         self.committed = 0
+        self.aborted = 0
         self.read: Set[Tuple[str, str]] = set()
         self.pending: List[Tuple[str, List[str]]] = []
 
@@ -110,6 +111,7 @@ class Counted:
             self.commit(session, self.open.pop(session))
         elif line == "abort":
             self.finished.add(session)
+            self.aborted += 1
             del self.open[session]
         elif line == "unknown":
             self.pending.append((session, [one for one in self.open.pop(session) if one.startswith("w,")]))
@@ -121,17 +123,18 @@ class Counted:
         self.committed += 1
         self.read.update(tuple(line.split(",")[1:]) for line in lines if line.startswith("r,"))
 
-    def settle(self) -> Tuple[int, int]:
-        """At an answer: those of unknown outcome of which a value was read count. How many transactions and sessions there are."""
+    def settle(self) -> Tuple[int, int, int]:
+        """At an answer: those of unknown outcome of which a value was read count. How many transactions and sessions there are, and how
+        many aborted transactions."""
         for one in self.pending[:]:
             if any(tuple(line.split(",")[1:]) in self.read for line in one[1]):
                 self.pending.remove(one)
                 self.commit(*one)
-        return self.committed, len(self.finished)
+        return self.committed, len(self.finished), self.aborted
 
 
-def counts_of(records: List[str]) -> List[Tuple[int, int]]:
-    """How many transactions and sessions there are at each seal, and at the end."""
+def counts_of(records: List[str]) -> List[Tuple[int, int, int]]:
+    """How many transactions, sessions and aborted transactions there are at each seal, and at the end."""
     counted, counts = Counted(), []
     for record in records:
         if record == "seal":
@@ -175,7 +178,7 @@ def answers_in(text: str) -> List[str]:
     return answers
 
 
-def wanted_of(explained: List[str], counts: List[Tuple[int, int]]) -> List[str]:
+def wanted_of(explained: List[str], counts: List[Tuple[int, int, int]]) -> List[str]:
     """What a watch has to say, by what `explain` says: of each anomaly after the first one that there still is one. A seal with
     nothing new has the last answer again."""
     wanted: List[str] = []
@@ -187,7 +190,7 @@ def wanted_of(explained: List[str], counts: List[Tuple[int, int]]) -> List[str]:
             first = count
             wanted.append(text)
         else:
-            wanted.append("anomaly: still, %d transactions, %d sessions\n" % count)
+            wanted.append("anomaly: still, %d transactions, %d sessions\n" % count[:2])
     return wanted
 
 
