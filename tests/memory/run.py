@@ -157,6 +157,11 @@ FULL_FAULTS = b'{"answer":"unresolved","faults":[\
 "limits":LIMITS,"sessions":2,"status":2,"transactions":1,"version":"0.1.0"}'
 FULL_ROW = b'{"answer":"none","fault":{"answer":"row","kind":"FieldCount","row":1},"large":LARGE,"level":"causal","limits":LIMITS,\
 "status":3,"version":"0.1.0"}'
+# Six seals, and then a stale read.
+OFTEN = b"".join(b"a,begin\na,w,x,%d\na,commit\nseal\n" % number for number in range(1, 7)) + b"a,begin\na,r,x,0\na,commit\n"
+OFTEN_ANSWERS = [b"consistent: %d transactions, 1 sessions\n" % number for number in range(1, 7)]
+OFTEN_ANSWERS.append(b"anomaly: 3 steps, stale-initial-read\nsession init -> a/1\nderived a/1 -> init by x, read by a/7\n"
+                     b"  session a/1 -> a/7\n  against init -> a/7 by x\n")
 # The limits as a table: what each is of, its key, and in which object it is.
 LIMITED = (("sessions", "sessions"), ("transactions", "transactions"), ("operations of a transaction", "operations"), ("keys", "keys"),
            ("seals", "seals"), ("bytes", "bytes"), ("bytes of a name", "name_bytes"), ("workers", "workers"))
@@ -171,7 +176,7 @@ def limits_table():
 
 
 FILES = {"certificate": FORK_CERTIFICATE, "two-stale-reads": TWO_STALE_READS, "large-order": LARGE_ORDER, "large-cycle": LARGE_CYCLE,
-         "past": PAST, "five": FIVE, "five-certificate": FIVE_CERTIFICATE, "three-fields": THREE_FIELDS}
+         "past": PAST, "often": OFTEN, "five": FIVE, "five-certificate": FIVE_CERTIFICATE, "three-fields": THREE_FIELDS}
 # The file of standard input, or none; the words after `tcc`, the answers, and the status. `@NAME` is one of these files.
 ANSWERS = [
     (STALE, ["explain"], STALE_READ, 1),
@@ -204,6 +209,8 @@ ANSWERS = [
     ("@five", ["explain", "--large", "--certificate", "/dev/null"], [FIVE_STEPS, b""], 1),
     (None, ["check", "--large", "@five", "@five-certificate"], b"accepted: cycle, 5 steps\n", 0),
     (EXAMPLES / "sealed.csv", ["watch"], [SEALED_FIRST, SEALED_CYCLE], 1),
+    # at the last of many seals a watch answers
+    ("@often", ["explain", "--large", "--quiet"], OFTEN_ANSWERS, 1),
     (STALE, ["survey"], SURVEYED, 1),
     (EXAMPLES / "aborted-read.csv", ["survey", "--large"], SURVEYED_FAULTS, 2),
     (STALE, ["survey", "--json"], SURVEYED_JSON, 1),

@@ -1,17 +1,12 @@
 -- What a run does with its bytes, from what its stages say.
 use Rattle.std.proofs.Common.{◌≡◌, Bool, ℕ, List, Option, Result, Ok, Err, inl, inr, subst}
 use Rattle.std.specs.Prelude.{IfOk, OnOk}
-use Rattle.tcc_txn.specs.Nested.{IsNested}
-use Rattle.tcc_txn.specs.Snapshots.{Sessions}
-use Rattle.tcc_txn.proofs.Nesting.{nested_itself}
 use Rattle.tcc_print.specs.Statuses.{code_of}
 use Rattle.tcc_print.specs.declared.previous.PreviousAnswer.{PreviousAnswer}
 use Rattle.tcc_print.specs.declared.options.Options.{Options}
 use Rattle.tcc_print.specs.private.Courses.{AllAnswered, EndsEarly}
 use Rattle.tcc_watch_run.specs.Watching.{checkpoints_of}
-use Rattle.tcc_watch_run.specs.declared.following.Follower.{Follower}
 use Rattle.tcc_watch_run.specs.declared.told.Told.{Told}
-use Rattle.tcc_watch_run.specs.private.Following.{HasCaughtUp, IsFollowing}
 use Rattle.tcc_watch_run.specs.private.Stages.{IsRunBy, course, told_said}
 
 -- a run that ends early
@@ -25,15 +20,9 @@ pub concluded : (quiet : Bool) (options : Options) (text : List ℕ) (before aft
     → AllAnswered (course quiet options (checkpoints_of text)) text before after last → code ≡ code_of last.outcome.status → IsRunBy quiet options text before after code
 concluded quiet options text before after last code (said, is, ends, known, out) by = (said, told_said last.outcome, inl is, ends, inl (out, by))
 
--- ---- the watch
+-- ---- what is said of a snapshot
 
 -- what was kept is what was found
 pub on_kept : {A E F : Type 0} (P : Type 0) (r : Result (PreviousAnswer A) E) (found : Result A F) → IfOk r (λ last. found ≡ Ok last.outcome) → OnOk found P → OnOk r P
 on_kept P (Ok last) found is on = subst (λ f. OnOk f P) is on
 on_kept P (Err e) found is on = tt
-
-pub follows : (f : Follower) (s : Sessions) → HasCaughtUp f s → IsFollowing f
-follows f s caught = caught.0
-
-pub nests : (f : Follower) (s : Sessions) → HasCaughtUp f s → IsNested f.watch s
-nests f s caught = subst (λ (z : Sessions). IsNested f.watch z) caught.1 (nested_itself f.watch)
