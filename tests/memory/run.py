@@ -157,11 +157,11 @@ FULL_FAULTS = b'{"answer":"unresolved","faults":[\
 "limits":LIMITS,"sessions":2,"status":2,"transactions":1,"version":"0.1.0"}'
 FULL_ROW = b'{"answer":"none","fault":{"answer":"row","kind":"FieldCount","row":1},"large":LARGE,"level":"causal","limits":LIMITS,\
 "status":3,"version":"0.1.0"}'
-# Six seals, and then a stale read.
-OFTEN = b"".join(b"a,begin\na,w,x,%d\na,commit\nseal\n" % number for number in range(1, 7)) + b"a,begin\na,r,x,0\na,commit\n"
-OFTEN_ANSWERS = [b"consistent: %d transactions, 1 sessions\n" % number for number in range(1, 7)]
-OFTEN_ANSWERS.append(b"anomaly: 3 steps, stale-initial-read\nsession init -> a/1\nderived a/1 -> init by x, read by a/7\n"
-                     b"  session a/1 -> a/7\n  against init -> a/7 by x\n")
+# Twelve seals, and then a stale read.
+OFTEN = b"".join(b"a,begin\na,w,x,%d\na,commit\nseal\n" % number for number in range(1, 13)) + b"a,begin\na,r,x,0\na,commit\n"
+OFTEN_ANSWERS = [b"consistent: %d transactions, 1 sessions\n" % number for number in range(1, 13)]
+OFTEN_ANSWERS.append(b"anomaly: 3 steps, stale-initial-read\nsession init -> a/1\nderived a/1 -> init by x, read by a/13\n"
+                     b"  session a/1 -> a/13\n  against init -> a/13 by x\n")
 # The limits as a table: what each is of, its key, and in which object it is.
 LIMITED = (("sessions", "sessions"), ("transactions", "transactions"), ("operations of a transaction", "operations"), ("keys", "keys"),
            ("seals", "seals"), ("bytes", "bytes"), ("bytes of a name", "name_bytes"), ("workers", "workers"))

@@ -19,8 +19,10 @@ use tcc_run::Watcher;
 use tcc_txn::{LargeSnapshot, NoMemory};
 use tcc_watch::Verdict;
 
-/// A watch costs about as much as this many decisions of the same transactions.
-const WATCH_COST: usize = 3;
+/// A watch of so many sessions costs about as much as this many decisions of the same transactions.
+const WATCH_COST: usize = 5;
+/// Up to so many sessions a watch answers. It holds two numbers of each session for every transaction.
+const WATCHED_SESSIONS: u32 = 128;
 
 /// What the answers of a run cost so far. A decision of a snapshot costs as much as the snapshot has transactions.
 #[derive(Clone, Copy)]
@@ -39,10 +41,13 @@ impl Costs {
         WATCH_COST.saturating_mul(transactions.saturating_sub(self.taken))
     }
 
-    /// Whether the watch is to take what is new in a snapshot of so many transactions. It is where with that no run has cost more than
-    /// 5/3 of what it had cost, had each snapshot been decided by itself. So it never is at the first two snapshots: a history without
-    /// seals costs what a decision costs, and many seals cost what one watch does.
-    fn allow_watch(&self, transactions: usize) -> bool {
+    /// Whether the watch is to take what is new in a snapshot of so many sessions and transactions. It is where with that no run has cost
+    /// more than 5/3 of what it had cost, had each snapshot been decided by itself. So it never is at the first snapshots: a history
+    /// without seals costs what a decision costs, and many seals cost what one watch does.
+    fn allow_watch(&self, sessions: u32, transactions: usize) -> bool {
+        if sessions > WATCHED_SESSIONS {
+            return false;
+        }
         let spent = self.spent.saturating_add(self.of_watch(transactions));
         let decided = self.decided.saturating_add(transactions);
         spent.saturating_mul(3) <= decided.saturating_mul(5)
@@ -105,7 +110,7 @@ impl Quietly {
     {
         let transactions = snapshot.transactions();
         // Nothing after an anomaly is consistent.
-        let is_watched = !has_told && self.costs.allow_watch(transactions);
+        let is_watched = !has_told && self.costs.allow_watch(snapshot.sessions(), transactions);
         self.costs.answer(transactions);
         if !is_watched {
             self.costs.decide(transactions);
