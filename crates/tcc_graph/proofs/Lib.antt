@@ -42,6 +42,7 @@ pub mod KeptKeys
 pub mod SortedKeys
 pub mod TableLemmas
 pub mod Tied
+pub mod Transposed
 pub mod Upward
 pub mod Walking
 pub mod Stepping
