@@ -14,10 +14,11 @@ ghost use Rattle.tcc_order.specs.private.Precedences.{IsKnown, precedes};
 ghost use Rattle.tcc_order.specs.private.Queued.{AreQueued, AreSure, IsAny};
 ghost use Rattle.tcc_clocks.specs.Parents.{ArePrevious, sources};
 
+use crate::flat_rows::FlatRows;
 use crate::ready::Ready;
 use crate::waiting::Waiting;
 use std::alloc::{AllocError, Global};
-use tcc_bits::{Row, is_marked, mark, words_for};
+use tcc_bits::{is_marked, mark, words_for};
 use tcc_graph::LargeGraph;
 use tcc_txn::NoMemory;
 
@@ -88,7 +89,7 @@ struct Precedence<'a> {
     /// For each transaction the one before it in its session.
     parents: &'a [u32],
     /// For each transaction the sources of the links that are kept into it.
-    kept: &'a [Row<u32>],
+    kept: &'a FlatRows<u32>,
 }
 
 impl Precedence<'_> {
@@ -105,7 +106,7 @@ impl Precedence<'_> {
         if let Some(index) = missing_source(reads, placed, seen) {
             return Some((reads[index].1, index));
         }
-        let row = self.kept[x as usize].as_slice();
+        let row = self.kept.row(x);
         let index = missing_of(row, placed, seen.saturating_sub(reads.len()))?;
         Some((row[index], reads.len().saturating_add(index)))
     }
@@ -238,7 +239,7 @@ pub(crate) fn first_placing(
     alloc: Global,
     graph: &LargeGraph,
     parents: &[u32],
-    kept: &[Row<u32>],
+    kept: &FlatRows<u32>,
 ) -> Result<Placed, NoMemory>
     requires parents { ArePrevious graph.now parents.now }
     requires long { length kept.now ≡ count graph.now }

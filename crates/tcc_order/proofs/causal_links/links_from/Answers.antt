@@ -7,7 +7,7 @@ use Rattle.tcc_order.proofs.causal_links.links_from.Goals as goal
 pub loop-block-init : goal.loop-block-init
 loop-block-init c =
     let h = c.args.sweep.now.graph.now in
-    let kept = c.in_ok-kept.kept.items in
+    let kept = c.in_ok-kept.kept in
     let long : length kept ≡ count h = search rules in (
       search rules,
       long,
@@ -18,9 +18,6 @@ loop-block-init c =
       search rules,
     )
 
-pub keep_block-requires-clause-derived : goal.keep_block-requires-clause-derived
-keep_block-requires-clause-derived c = rw c.deref_mut-in-loop-block-3.ensures.value c.loop-block.invariant.2
-
 pub loop-block-preserved-then-not-is_needed : goal.loop-block-preserved-then-not-is_needed
 loop-block-preserved-then-not-is_needed c =
     let h = c.args.sweep.now.graph.now in
@@ -29,7 +26,7 @@ loop-block-preserved-then-not-is_needed c =
       inv.0,
       inv.1,
       inv.2,
-      block_passed h c.loop-block.kept.items c.args.sweep.now.needed.now c.requires.needed c.args.first c.loop-block.block unmarked inv.3,
+      block_passed h c.loop-block.kept c.args.sweep.now.needed.now c.requires.needed c.args.first c.loop-block.block unmarked inv.3,
       inv.4,
       inv.5,
       inv.6,
@@ -46,11 +43,9 @@ keep_block-requires-clause-readings c =
 pub loop-block-preserved : goal.loop-block-preserved
 loop-block-preserved c =
     let h = c.args.sweep.now.graph.now in
-    let new = c.keep_block.new.kept in
-    let old = c.loop-block.kept.items in
+    let new = c.in_ok-keep_block.field-0 in
+    let old = c.loop-block.kept in
     let inv = c.loop-block.invariant in
-    let same : length new ≡ length old = rw c.deref_mut-in-loop-block-3.ensures.value at c.in_ok-keep_block.ensures.same in
-    let long : c.loop-block.kept.len ≡ length old = search rules in
     let last = c.find_news.new.last in
     let kept_last : length last ≡ length c.loop-block.last.items = rw c.deref_mut-in-loop-block.ensures.value at c.find_news.ensures.rows in
     let long_last : c.loop-block.last.len ≡ length c.loop-block.last.items = search rules in
@@ -58,14 +53,13 @@ loop-block-preserved c =
     let kept_heads : length heads ≡ length c.loop-block.heads.items = rw c.deref_mut-in-loop-block-2.ensures.value at c.find_news.ensures.heads in
     let long_heads : c.loop-block.heads.len ≡ length c.loop-block.heads.items = search rules in
     rw (
-      take_at new _ c.loop-block.kept.len (same ∙ sym long),
       take_at last _ c.loop-block.last.len (kept_last ∙ sym long_last),
       take_at heads _ c.loop-block.heads.len (kept_heads ∙ sym long_heads),
     ) (
       c.in_ok-find_news.ensures.clocks.long,
-      same ∙ inv.1,
+      c.in_ok-keep_block.ensures.same ∙ inv.1,
       c.in_ok-keep_block.ensures.derived,
-      block_kept h old new c.args.first c.loop-block.block (rw c.deref_mut-in-loop-block-3.ensures.value at c.in_ok-keep_block.ensures.still) inv.3
+      block_kept h old new c.args.first c.loop-block.block c.in_ok-keep_block.ensures.still inv.3
           c.in_ok-keep_block.ensures.enough,
       search rules,
       kept_last ∙ inv.5,
