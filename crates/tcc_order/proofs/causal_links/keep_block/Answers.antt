@@ -5,8 +5,8 @@ use Rattle.tcc_graph.specs.Relations.{IsReadsPair}
 use Rattle.tcc_graph.specs.Tables.{row_of}
 use Rattle.tcc_clocks.specs.Clocks.{IsBefore, AreLatestOf}
 use Rattle.tcc_clocks.specs.declared.latest.TheConstants.{WIDE}
-use Rattle.tcc_order.specs.private.CausalLinks.{AreLatestPast, AreRuns, IsOverwritten, KeepsNews}
-use Rattle.tcc_order.proofs.Needing.{kept_derived, kept_enough, runs_begun, runs_kept, runs_passed}
+use Rattle.tcc_order.specs.private.CausalLinks.{AreDerived, AreEnough, AreLatestPast, AreRuns, AreStillKept, IsOverwritten, KeepsNews, Overwrites}
+use Rattle.tcc_order.proofs.Needing.{IsUpTo, kept_derived, kept_enough, runs_begun, runs_kept, runs_passed}
 use Rattle.tcc_order.proofs.KeptRows.{renewed, renewed_all, renewed_long, renewed_row, renewed_same, renewed_set, rows_wider}
 use Rattle.tcc_order.proofs.ByKey.{none_more}
 use Rattle.tcc_order.proofs.NewsLemmas.{news_readers}
@@ -102,7 +102,7 @@ loop-a-preserved c =
     let keeps : KeepsNews need clock run after (row_of kept a) new (length need) = rw (c.get.ensures, was) at c.in_ok-keep.ensures.kept in
     let reaches : AreLatestOf h (IsBefore h a) from clock = c.requires.clocks.each a low low in
     let needs : AreLatestPast h (IsOverwritten h (IsReadsPair h a) a) from clock need = c.needed.ensures in
-    let pushed : c.push.new.self ≡ c.loop-a.more ++ new ∷ [] = rw c.deref.ensures.value at c.in_ok-push.ensures in
+    let pushed : c.push-in-loop-a.new.self ≡ c.loop-a.more ++ new ∷ [] = rw c.deref.ensures.value at c.in_ok-push-2.ensures in
     rw (pushed, renewed_set c.loop-a.more old a inv.2 inside new) (
       needs.wide,
       c.in_ok-keep.ensures.same ∙ (c.begin_session.ensures.same ∙ inv.1),
@@ -120,11 +120,14 @@ returns c =
     let inv = c.loop-a.invariant in
     let done : c.loop-a.a ≡ count h = search rules in
     let all : renewed c.loop-a.more c.args.kept.now c.loop-a.a ≡ c.loop-a.more = renewed_all c.loop-a.more c.args.kept.now c.loop-a.a (omega (arith, done, c.requires.long)) in
+    let derived : AreDerived (Overwrites h) c.loop-a.more = rw all at inv.3 in
+    let still : AreStillKept c.args.kept.now c.loop-a.more = rw all at inv.6 in
+    let upto : AreEnough h (Overwrites h) (IsUpTo h c.args.from c.loop-a.a) c.loop-a.more = rw all at inv.4 in
     record {
       same = omega (arith, inv.2, done, c.requires.long);
-      derived = rw all at inv.3;
-      still = rw all at inv.6;
-      enough = rw all at (λ a b over some meant. inv.4 a b over some (meant, omega (arith, over.0, done)));
+      derived = derived;
+      still = still;
+      enough = λ a b over some meant. upto a b over some (meant, omega (arith, over.0, done));
     }
 
 pub has_more-requires-clause-long : goal.has_more-requires-clause-long

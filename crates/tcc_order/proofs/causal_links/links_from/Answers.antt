@@ -43,7 +43,6 @@ keep_block-requires-clause-readings c =
 pub loop-block-preserved : goal.loop-block-preserved
 loop-block-preserved c =
     let h = c.args.sweep.now.graph.now in
-    let new = c.in_ok-keep_block.field-0 in
     let old = c.loop-block.kept in
     let inv = c.loop-block.invariant in
     let last = c.find_news.new.last in
@@ -57,10 +56,10 @@ loop-block-preserved c =
       take_at heads _ c.loop-block.heads.len (kept_heads ∙ sym long_heads),
     ) (
       c.in_ok-find_news.ensures.clocks.long,
-      c.in_ok-keep_block.ensures.same ∙ inv.1,
-      c.in_ok-keep_block.ensures.derived,
-      block_kept h old new c.args.first c.loop-block.block c.in_ok-keep_block.ensures.still inv.3
-          c.in_ok-keep_block.ensures.enough,
+      c.in_ok-kept-2.ensures.same ∙ inv.1,
+      c.in_ok-kept-2.ensures.derived,
+      block_kept h old _ c.args.first c.loop-block.block c.in_ok-kept-2.ensures.still inv.3
+          c.in_ok-kept-2.ensures.enough,
       search rules,
       kept_last ∙ inv.5,
       kept_heads ∙ inv.6,

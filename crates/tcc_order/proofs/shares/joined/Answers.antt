@@ -11,9 +11,8 @@ loop-part-preserved c =
     let s = c.args.shares.now in
     let n = c.loop-part.part-index in
     let old = c.loop-part.kept in
-    let new = c.in_ok-join.field-0 in
     let part = c.part-item.result in
     let after : AreLinksFrom h (start_of s n * WIDE) (start_of s (n + 1) * WIDE) part
     = subst (λ (kept : Links). AreLinksFrom h (start_of s n * WIDE) (start_of s (n + 1) * WIDE) kept) (sym c.part-item.is)
     (c.requires.each n part (omega (arith, c.loop-part-test.true, c.requires.long))) in
-    joined_links h old part new c.in_ok-join.ensures.joined 0 (start_of s n * WIDE) (start_of s (n + 1) * WIDE) (c.in_ok-join.ensures.same ∙ sym c.loop-part.invariant.long) c.loop-part.invariant after
+    joined_links h old part _ c.in_ok-kept-2.ensures.joined 0 (start_of s n * WIDE) (start_of s (n + 1) * WIDE) (omega (arith, c.in_ok-kept-2.ensures.same, c.loop-part.invariant.long, c.count-in-loop-part.ensures.value)) c.loop-part.invariant after
