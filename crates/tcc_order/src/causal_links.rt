@@ -17,7 +17,6 @@ ghost use Rattle.std.specs.Prelude.{nat_le, true, false, ◌∷◌, []};
 
 use crate::flat_rows::FlatRows;
 use crate::news::{find_news, no_writers};
-use crate::reading_rows::{Readings, no_readings};
 use crate::rows::refill;
 use std::alloc::Global;
 use tcc_clocks::{
@@ -281,7 +280,12 @@ fn are_alike(table: &SharedRows, readings: &[(u32, u32)], others: &[(u32, u32)])
 }
 
 /// Whether the readers of `a` are like those of the transaction before it in its session.
-fn is_like_before(owners: &[u32], table: &SharedRows, readings: &[Readings], a: u32) -> bool
+fn is_like_before(
+    owners: &[u32],
+    table: &SharedRows,
+    readings: &FlatRows<(u32, u32)>,
+    a: u32,
+) -> bool
     requires below { a < length owners.now }
     requires long { length readings.now ≡ length owners.now }
     requires readers { All (λ row. All (λ reading. reading.0 < length table.now) row) readings.now }
@@ -291,20 +295,20 @@ fn is_like_before(owners: &[u32], table: &SharedRows, readings: &[Readings], a: 
     if before == 0 {
         return false;
     }
-    let from_a = readings[a as usize].as_slice();
-    let from_before = readings[before as usize].as_slice();
+    let from_a = readings.row(a);
+    let from_before = readings.row(before);
     are_alike(table, from_a, from_before)
 }
 
 /// Whether more may have to be before `a` than what its clock holds, and than what has to be before the transaction before it
 /// in its session.
-fn has_more(owners: &[u32], table: &SharedRows, readings: &[Readings], a: u32) -> bool
+fn has_more(owners: &[u32], table: &SharedRows, readings: &FlatRows<(u32, u32)>, a: u32) -> bool
     requires below { a < length owners.now }
     requires long { length readings.now ≡ length owners.now }
     requires readers { All (λ row. All (λ reading. reading.0 < length table.now) row) readings.now }
     ensures { result ≡ false → (row_of readings.now a ≡ []) ⊎ IsLikeBefore owners.now table.now readings.now a }
 {
-    if readings[a as usize].as_slice().is_empty() {
+    if readings.row(a).is_empty() {
         return false;
     }
     !is_like_before(owners, table, readings, a)
@@ -336,7 +340,7 @@ fn keep_block(
     owners: &[u32],
     from: u32,
     table: &SharedRows,
-    readings: &[Readings],
+    readings: &FlatRows<(u32, u32)>,
 ) -> Result<FlatRows<u32>, NoMemory>
     requires numbered { IsBySession graph.now.entries }
     requires owners { AreOwners graph.now owners.now }
@@ -361,7 +365,7 @@ fn keep_block(
             more.push(before)?;
             continue;
         }
-        let from_a = readings[a as usize].as_slice();
+        let from_a = readings.row(a);
         needed(&mut need, graph, owners, from, bounds, table, from_a, a);
         refill(&mut row, before)?;
         keep(&mut row, &need, table.get(a), &mut run)?;
@@ -408,7 +412,6 @@ pub(crate) fn links_from(
     let blocks = graph.sessions().len().div_ceil(WIDE);
     let mut kept = FlatRows::empty(alloc, graph.count())?;
     let mut table = SharedRows::new(alloc, graph.count())?;
-    let mut readings = no_readings(alloc, graph.count())?;
     let mut last = no_writers(alloc, graph)?;
     let mut heads = vec![in alloc; 0; last.len()]?;
     for block in first..end.min(blocks) {
@@ -419,16 +422,8 @@ pub(crate) fn links_from(
         let owners = sweep.owners;
         let order = sweep.order;
         let steps = sweep.steps;
-        find_news(
-            &mut readings,
-            &mut last,
-            &mut heads,
-            owners,
-            from,
-            graph,
-            &mut table,
-            order,
-            steps,
+        let readings = find_news(
+            alloc, &mut last, &mut heads, owners, from, graph, &mut table, order, steps,
         )?;
         kept = keep_block(alloc, &kept, graph, owners, from, &table, &readings)?;
     }

@@ -1,5 +1,5 @@
-use Rattle.std.proofs.Common.{rules, ◌≡◌, ◌<◌, ◌+◌, ◌∙◌, ◌∷◌, ◌++◌, ℕ, List, [], length, get_or, refl, sym, arith}
-use Rattle.std.proofs.lemmas.List.{get_or_default, length-replicate, length_push}
+use Rattle.std.proofs.Common.{rules, ◌≡◌, ◌<◌, ◌+◌, ◌∙◌, ◌∷◌, ◌++◌, ℕ, List, [], length, refl, sym, arith}
+use Rattle.std.proofs.lemmas.List.{length-replicate, length_push}
 use Rattle.tcc_reads.specs.History.{count, owner}
 use Rattle.tcc_graph.specs.Relations.{IsReadsPair}
 use Rattle.tcc_graph.specs.Tables.{row_of}
@@ -30,14 +30,7 @@ pub block_bounds-bounds-requires : goal.block_bounds-bounds-requires
 block_bounds-bounds-requires c = owners_rise c.args.graph.now c.requires.numbered c.args.owners.now c.requires.owners
 
 pub needed-requires-clause-readings : goal.needed-requires-clause-readings
-needed-requires-clause-readings c =
-    let readings = c.args.readings.now in
-    let a = c.loop-a.a in
-    let low : a < count c.args.graph.now = search rules in
-    let was : get_or readings a c.index-readings-a.result ≡ row_of readings a
-    = get_or_default readings a c.index-readings-a.result [] (omega (arith, low, c.requires.readings.long)) in
-    let is : c.as_slice-from_a.result.now ≡ row_of readings a = cc (was, c.as_slice-from_a.ensures, c.index-readings-a.is) in
-    rw is (c.requires.readings.each a)
+needed-requires-clause-readings c = rw c.row-from_a.ensures (c.requires.readings.each c.loop-a.a)
 
 pub keep-requires-clause-long : goal.keep-requires-clause-long
 keep-requires-clause-long c =

@@ -10,6 +10,5 @@ invariant-loop-block l =
     × (length l.kept ≡ count l.sweep.graph.now)
     × AreDerived (Overwrites l.sweep.graph.now) l.kept
     × AreEnough l.sweep.graph.now (Overwrites l.sweep.graph.now) (IsFrom l.sweep.graph.now (l.first * WIDE) (l.block * WIDE)) l.kept
-    × (length l.readings.items ≡ count l.sweep.graph.now)
     × (length l.last.items ≡ length l.initial.last.items)
     × (length l.heads.items ≡ length l.initial.heads.items)
