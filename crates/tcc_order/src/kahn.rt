@@ -36,7 +36,7 @@ struct Queue {
     woken: Vec<u32>,
     ready: Ready,
     waiting: Waiting,
-    seen: Vec<usize>,
+    seen: Vec<u32>,
 }
 
 /// The index, from this one on, of a transaction that is read from and was not placed.
@@ -143,10 +143,11 @@ impl Precedence<'_> {
         ensures sure { OnOk result (AreSure (precedes self.now) placed.now queue.new.ready) }
     {
         while let Some(number) = queue.woken.pop() {
-            let seen = queue.seen[number as usize];
+            let seen = queue.seen[number as usize] as usize;
             match self.missing(placed, number, seen) {
                 Some((other, place)) => {
-                    queue.seen[number as usize] = place;
+                    // a place that has no room begins anew
+                    queue.seen[number as usize] = u32::try_from(place).unwrap_or(0);
                     queue.waiting.push(other, number)?;
                 }
                 None => queue.ready.push(number)?,
@@ -224,7 +225,7 @@ fn first_queue(alloc: Global, parents: &[u32], count: u32) -> Result<Queue, NoMe
 {
     let woken = roots(alloc, parents)?;
     let waiting = Waiting::new(alloc, count)?;
-    let seen = vec![in alloc; 0usize; count as usize]?;
+    let seen = vec![in alloc; 0; count as usize]?;
     Ok(Queue {
         woken,
         ready: Ready::new(alloc),
