@@ -1,5 +1,5 @@
 #!/usr/bin/env python3
-"""What a run of `tcc explain --large`, `tcc survey --large` or `tcc check --large` shows at a terminal while it lasts: after two seconds
+"""What a run of `tcc explain --large`, `watch`, `survey --large` or `check --large` shows at a terminal while it lasts: after two seconds
 what it is doing, on one line that is cleared before anything else is written; elsewhere, and where the run is short or its records are
 typed, nothing. A check or a survey says how far it is where it reads a file whose size is known, and then by the blocks of sessions
 that are done.
@@ -42,7 +42,8 @@ derived a/1 -> init by x, read by a/2
   session a/1 -> a/2
   against init -> a/2 by x
 """
-CONSISTENT = b"consistent: 1 transactions, 1 sessions\norder: init a/1\n"
+COUNTED = b"consistent: 1 transactions, 1 sessions\n"
+CONSISTENT = COUNTED + b"order: init a/1\n"
 NOTHING_FOUND = b"0 contradicted reads of 0, 0 faults\nno read is contradicted, which is no answer: ask tcc explain\n"
 
 
@@ -370,6 +371,11 @@ def outcomes(tcc):
     yield "a long run of records typed as a file", typed([*words, TYPED], ONE, CONSISTENT)
     yield "a long decision", decided(words)
     yield "a long cutting of a slice", sliced(words)
+    yield "a seal of a long quiet run", wrong_with([*words, "--quiet"], [ONE, b"seal\n", b""], 0, COUNTED, reading)
+    watch = [tcc, "watch"]
+    yield "a seal of a long watch", wrong_with(watch, [ONE, b"seal\n", b""], 0, COUNTED, reading)
+    yield "a short watch", wrong_with(watch, [ONE], 0, COUNTED, [])
+    yield "a long watch of typed records", typed(watch, ONE, COUNTED)
     survey = [tcc, "survey", "--large"]
     yield "a long reading of a survey", wrong_with(survey, [b"", ONE], 0, NOTHING_FOUND, reading)
     yield "a long survey", surveyed(survey)

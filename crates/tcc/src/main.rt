@@ -252,24 +252,39 @@ fn survey<W: Write>(
     }
 }
 
+/// Answers for the records of the input while they come, and gives the status of the run. At a terminal a run that waits for records, or
+/// decides, for longer shows that.
+fn watch_shown<W: Write>(
+    rt: &HostRuntime,
+    threads: &(impl Threads + Wait + Clock + Sync),
+    options: Options,
+    input: ErrorReporter<'_, RecordInput>,
+    out: &mut W,
+) -> u8 {
+    let mut notes = rt.stderr();
+    let is_shown = is_waited_for(rt, input.stream());
+    let watch = Watch::new(threads, rt.stderr());
+    let watch = &watch;
+    thread::scope(thread::scope_env(), threads, move |scope| -> u8 {
+        if is_shown {
+            let _ = scope.spawn(move || watch.show());
+        }
+        let code = run_watch(threads, rt.alloc(), input, out, &mut notes, options, watch);
+        watch.finish();
+        code
+    })
+}
+
 /// Answers for the records at the path, or of the standard input, while they come, and gives the status of the run.
 fn watch_records<W: Write>(
     rt: &HostRuntime,
-    threads: &(impl Threads + Sync),
+    threads: &(impl Threads + Wait + Clock + Sync),
     options: Options,
     history: Option<&str>,
     out: &mut W,
 ) -> u8 {
     match open_input(rt, history) {
-        Ok(input) => run_watch(
-            threads,
-            rt.alloc(),
-            input,
-            out,
-            &mut rt.stderr(),
-            options,
-            &OpenGate,
-        ),
+        Ok(input) => watch_shown(rt, threads, options, input, out),
         Err(error) => print_unopened(error.kind(), options.json, out),
     }
 }

@@ -1,4 +1,4 @@
-//! What a run of `explain --large`, `survey --large` or `check --large` is doing, on one line of the terminal that shows the errors.
+//! What a run of `explain --large`, `watch`, `survey --large` or `check --large` is doing, on one line of the terminal that shows the errors.
 
 use std::io::{self, Write};
 use std::sync::{Condvar, Mutex, Wait};
