@@ -18,6 +18,7 @@ use Rattle.tcc_graph.specs.private.Grouped.{of_group, groups}
 use Rattle.tcc_reads.specs.Indexed.{Indexed}
 use Rattle.tcc_graph.specs.private.ReadTables.{over, indexed_of, values_from, HasReadsInOrder, AreIndexed, IsIndexTable}
 use Rattle.tcc_graph.specs.KeyIndices.{IsAbsent, name_of}
+use Rattle.tcc_graph.specs.Tables.{row_of}
 use Rattle.tcc_graph.specs.private.KeyRows.{KeyRow, key_row_of, marked, writes_key, reads_key, IsKeyTable}
 use Rattle.tcc_graph.proofs.Ascending.{groups_sorted, values_sorted, indices_sorted, filtered_sorted}
 use Rattle.tcc_graph.proofs.GroupedLemmas.{of_group-groups, zip-map, in_groups, from_groups}
@@ -84,9 +85,9 @@ module _ (entries : List Entry) (names : List (List ℕ)) (indexed : List Indexe
 
   -- the readings of a source, by indices
   module _ (table : List (List (ℕ × ℕ))) (tables : IsIndexTable (length entries) indexed (length entries) table) (a : ℕ) (from : a < length entries)
-      (row : List (ℕ × ℕ)) (is : row ≡ get_or table a row) where
+      (row : List (ℕ × ℕ)) (is : row ≡ row_of table a) where
     whole_row : row ≡ groups (λ b. values_from (indexed_of indexed b).reads a) (length entries)
-    whole_row = let inside : a < length table = omega (arith, tables.long) in get_or_read table a row inside is [] ∙ tables.rows a from
+    whole_row = is ∙ tables.rows a from
 
     pub indices_within : All (λ key_index. key_index < length names) (map (λ p. p.1) row)
     indices_within = rw whole_row (All-map (λ key_index. key_index < length names) (λ p. p.1) (groups (λ b. values_from (indexed_of indexed b).reads a) (length entries))

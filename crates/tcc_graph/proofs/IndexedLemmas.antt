@@ -14,6 +14,7 @@ use Rattle.tcc_reads.specs.Sources.{name_cmp}
 use Rattle.tcc_graph.specs.Keys.{has_name, keys, keys_of}
 use Rattle.tcc_graph.specs.private.Grouped.{as_group, groups}
 use Rattle.tcc_graph.specs.KeyIndices.{name_of, StandsAt}
+use Rattle.tcc_graph.specs.Tables.{row_of}
 use Rattle.tcc_reads.specs.Indexed.{Indexed, named, entry_of, entries_of}
 use Rattle.tcc_graph.specs.private.ReadTables.{over, values_from, indexed_of, unindexed, history_of, IsIndexed, AreIndexed, IsIndexTable, HasSources}
 use Rattle.tcc_graph.proofs.NameLemmas.{bytes_eq-same, bytes_eq-other, indices_differ, contains-has_name}
@@ -96,13 +97,10 @@ values_in_groups P values (suc m) all =
 -- the indices of a row of the table are below those of the reads
 pub row_within : (indexed : List Indexed) (n : ℕ) → All (λ p. All (λ read. read.0 < n) p.reads) indexed → (table : List (List (ℕ × ℕ)))
     → IsIndexTable (length indexed) indexed (length indexed) table
-    → (a : ℕ) → a < length table → (row : List (ℕ × ℕ)) → row ≡ get_or table a row → All (λ p. p.1 < n) row
-row_within indexed n within table tables a inside row is =
-    rw whole (values_in_groups (λ j. j < n) (λ b. values_from (indexed_of indexed b).reads a) (length indexed)
+    → (a : ℕ) → a < length indexed → All (λ p. p.1 < n) (row_of table a)
+row_within indexed n within table tables a inside =
+    rw (tables.rows a inside) (values_in_groups (λ j. j < n) (λ b. values_from (indexed_of indexed b).reads a) (length indexed)
     (λ b h. values_within n (indexed_of indexed b).reads a (within b _ h)))
-  where
-    whole : row ≡ groups (λ b. values_from (indexed_of indexed b).reads a) (length indexed)
-    whole = get_or_read table a row inside is [] ∙ tables.rows a (omega (arith, tables.long))
 
 -- what holds for all keys of a transaction holds for those that it reads
 pub keys_read : (P : List ℕ → Type 0) (e : Entry) → All P (keys_of e) → All (λ read. P read.0) e.reads

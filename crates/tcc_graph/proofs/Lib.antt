@@ -19,6 +19,7 @@
 pub mod Ascending
 pub mod GraphLemmas
 pub mod GroupedLemmas
+pub mod GroupedRowsLemmas
 pub mod IndexedLemmas
 pub mod Kept
 pub mod KeyRowLemmas

@@ -26,7 +26,7 @@ impl<T: Copy> Model for Grouped<T> {
 }
 
 /// Where the span of a group begins and ends.
-fn span(numbers: &[u32], group: u32) -> (usize, usize)
+pub(crate) fn span(numbers: &[u32], group: u32) -> (usize, usize)
     requires { IsNonDecreasing numbers.now }
     ensures { IsSpan numbers.now group result.0 result.1 }
 {
@@ -59,18 +59,22 @@ impl<T: Copy> Grouped<T> {
         Ok(())
     }
 
-    /// Other values in the same groups.
-    pub(crate) fn with_values<U: Copy>(
-        &self,
+    /// Values in these groups.
+    pub(crate) fn in_groups(
         alloc: Global,
-        values: Vec<U>,
-    ) -> Result<Grouped<U>, NoMemory>
-        requires { length values.items ≡ length self.now }
-        ensures { IfOk result (λ other. other ≡ zip (map (λ p. p.0) self.now) values.items) }
+        groups: &[u32],
+        values: Vec<T>,
+    ) -> Result<Grouped<T>, NoMemory>
+        requires long { length values.items ≡ length groups.now }
+        requires order { IsNonDecreasing groups.now }
+        ensures { IfOk result (λ grouped. grouped ≡ zip groups.now values.items) }
     {
-        let mut groups = Vec::with_capacity(alloc, self.groups.len())?;
-        groups.extend_from_slice(&self.groups)?;
-        Ok(Grouped { groups, values })
+        let mut copied = Vec::with_capacity(alloc, groups.len())?;
+        copied.extend_from_slice(groups)?;
+        Ok(Grouped {
+            groups: copied,
+            values,
+        })
     }
 
     /// The group of each value.

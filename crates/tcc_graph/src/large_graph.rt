@@ -1,5 +1,6 @@
 //! The graph of a resolved history within the large limits.
-ghost use Rattle.std.specs.Prelude.{◌≡◌, ◌≤◌, ◌<◌, ◌+◌, ◌++◌, ◌⊎◌, ◌↔◌, ℕ, List, length, map, All, IfOk, IsTrue, string_bytes, MatchOption, []};
+ghost use Rattle.std.specs.Prelude.{◌≡◌, ◌≤◌, ◌<◌, ◌+◌, ◌++◌, ◌⊎◌, ◌↔◌, ℕ, List, length, map, zip, All, IfOk, IsTrue, string_bytes, MatchOption, []};
+ghost use Rattle.std.specs.List.Sorted.{IsNonDecreasing};
 ghost use Rattle.tcc_graph.specs.{private.Grouped.of_group, Readings.AreReadingsByIndex, Readings.AreReadingsOfKey, Levels.judged, Numbers.at, Numbers.label, Links.IsLink};
 ghost use Rattle.tcc_graph.specs.Relations.{IsCausalPair, IsSessionPair, session_pair, previous, reads_from, causal_pair};
 ghost use Rattle.tcc_graph.specs.Walks.{IsStep, step_from, step_to};
@@ -7,7 +8,7 @@ ghost use Rattle.tcc_graph.specs.Keys.{IsWriter, keys, key_at, writers, readers}
 ghost use Rattle.tcc_txn.specs.declared.limits.TheConstants.{LARGE_COUNT, LARGE_SESSIONS};
 ghost use Rattle.tcc_reads.specs.History.{History, IsBySession, count, entry_at, owner};
 
-use crate::grouped::Grouped;
+use crate::grouped_rows::GroupedRows;
 use crate::key_row::KeyRow;
 use crate::key_table::{key_index_of, key_table};
 use crate::own_keys::{OwnKeys, with_own_keys};
@@ -27,7 +28,7 @@ pub struct LargeGraph {
     sessions: Vec<Name>,
     keys: Vec<Name>,
     indexed: Vec<Indexed>,
-    key_indices: Vec<Grouped<u32>>,
+    key_indices: GroupedRows,
     rows: Vec<KeyRow>,
 }
 
@@ -40,7 +41,7 @@ impl Model for LargeGraph {
 
     ghost view = { λ g. history_of g.sessions.items g.keys.items g.indexed.items };
 
-    ghost invariant = { λ g. IsGraph g.sessions.items (entries_of g.keys.items g.indexed.items) g.keys.items g.indexed.items g.key_indices.items g.rows.items };
+    ghost invariant = { λ g. IsGraph g.sessions.items (entries_of g.keys.items g.indexed.items) g.keys.items g.indexed.items g.key_indices g.rows.items };
 }
 
 impl LargeGraph {
@@ -157,7 +158,7 @@ impl LargeGraph {
         requires to { b < count self.now }
         ensures { result ≡ causal_pair self.now a b }
     {
-        self.session(a, b) || self.key_indices[a as usize].has(b)
+        self.session(a, b) || self.key_indices.has(a as usize, b)
     }
 
     /// The step from one transaction to another by a pair: by session order if they are a session pair.
@@ -248,13 +249,16 @@ impl LargeGraph {
         (readers.groups(), readers.values())
     }
 
-    /// What is read from `a`: the indices of keys, each in the group of its reader.
-    pub(crate) fn read_at(&self, a: u32) -> &Grouped<u32>
+    /// Who reads from `a`, and beside each the index of a key that it reads there.
+    pub(crate) fn read_at(&self, a: u32) -> (&[u32], &[u32])
         requires { a < count self.now }
-        ensures readings { AreReadingsByIndex self.now a (map (λ p. p.0) result.now) (map (λ p. p.1) result.now) }
-        ensures from { (b : ℕ) → b < count self.now → map (key_at self.now) (of_group result.now b) ≡ reads_from self.now a b }
+        ensures readings { AreReadingsByIndex self.now a result.0.now result.1.now }
+        ensures from { (b : ℕ) → b < count self.now
+            → map (key_at self.now) (of_group (zip result.0.now result.1.now) b) ≡ reads_from self.now a b }
+        ensures order { IsNonDecreasing result.0.now }
     {
-        &self.key_indices[a as usize]
+        let row = a as usize;
+        (self.key_indices.groups(row), self.key_indices.values(row))
     }
 
     /// Who reads from `a`, by ascending number, and beside each the index of a key that it reads there: for one reader
@@ -263,8 +267,7 @@ impl LargeGraph {
         requires { a < count self.now }
         ensures { AreReadingsByIndex self.now a result.0.now result.1.now }
     {
-        let key_indices = self.read_at(a);
-        (key_indices.groups(), key_indices.values())
+        self.read_at(a)
     }
 
     /// The indices of the keys that `b` reads from `a`, ascending.
@@ -274,7 +277,7 @@ impl LargeGraph {
         ensures value { map (key_at self.now) result.now ≡ reads_from self.now a b }
         ensures within { All (λ key_index. key_index < length (keys self.now)) result.now }
     {
-        self.key_indices[a as usize].get(b)
+        self.key_indices.get(a as usize, b)
     }
 
     /// The indices of the keys that a transaction reads, each with the transaction that it reads it from.

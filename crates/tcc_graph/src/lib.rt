@@ -4,6 +4,7 @@
 
 mod graph;
 mod grouped;
+mod grouped_rows;
 mod key_row;
 mod key_table;
 mod labels;

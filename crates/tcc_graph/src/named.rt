@@ -62,12 +62,12 @@ impl Named {
         ensures { IfOk result (IsNamed graph.now n) }
     {
         let keys = graph.keys();
-        let readings = graph.read_at(n);
-        let keys_read = names_at(alloc, keys, readings.values())?;
+        let (readers, key_indices) = graph.read_at(n);
+        let keys_read = names_at(alloc, keys, key_indices)?;
         Ok(Named {
             writes: names_at(alloc, keys, graph.writes_at(n))?,
             reads: reads_by_name(alloc, graph, n)?,
-            readings: readings.with_values(alloc, keys_read)?,
+            readings: Grouped::in_groups(alloc, readers, keys_read)?,
         })
     }
 }

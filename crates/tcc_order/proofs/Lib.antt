@@ -10,6 +10,7 @@ pub mod ChainLemmas
 pub mod Fronts
 pub mod Links
 pub mod EmptyRows
+pub mod FlatLemmas
 pub mod LastLemmas
 mod Worked
 mod WorkedClocks

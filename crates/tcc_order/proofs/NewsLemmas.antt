@@ -1,10 +1,10 @@
 -- Which transactions are new: what the rows of last writers hold, and what a clock holds if none of them is past it.
-use Rattle.std.proofs.Common.{◌≡◌, ◌≢◌, ◌<◌, ◌≤◌, ◌+◌, ◌%◌, ◌==◌, ◌↔◌, ◌⊎◌, inl, inr, ℕ, suc, true, false, ◌&&◌, nat_lt, List, [], ◌∷◌, ◌++◌, length, map, filter, get_or, set, take}
+use Rattle.std.proofs.Common.{◌≡◌, ◌≢◌, ◌<◌, ◌≤◌, ◌+◌, ◌%◌, ◌==◌, ◌↔◌, ◌⊎◌, inl, inr, ℕ, zero, suc, true, false, ◌&&◌, nat_lt, List, [], ◌∷◌, ◌++◌, length, map, filter, get_or, set, take}
 use Rattle.std.proofs.Common.{slice_index, refl, sym, ap, ◌∙◌, subst, arith}
 use Rattle.std.specs.Prelude.{max, min}
 use Rattle.std.specs.List.{All, Contains, list_any}
 use Rattle.std.proofs.lemmas.Bool.{cases_eq, cases_lt, cases_Bool, and_parts, ltb-true, eqb-true, eq-eqb, or_cases}
-use Rattle.std.proofs.lemmas.List.{get_or-set_same, get_or-set_other, length-set, get_or_default, get_or-take, length-take-le}
+use Rattle.std.proofs.lemmas.List.{get_or-set_same, get_or-set_other, length-set, get_or_default, get_or-take, length-take-le, get_or_append_left, get_or_at, get_or_past}
 use Rattle.std.proofs.lemmas.List.Elements.{All-weaker, All-contains, All-contains_itself, Contains-append_left, Contains-append_right, Contains-push, Contains-push_cases}
 use Rattle.std.proofs.lemmas.List.Sorted.{Contains-permutation, IsPermutation-sym}
 use Rattle.std.specs.List.Sorted.{IsPermutation}
@@ -149,26 +149,34 @@ told_more h from table c reads old new n wider told here j l = go (cases_eq j n)
     go (inl same) = subst (λ (z : ℕ). IsReadTold h from table c new (get_or reads z (0, 0))) (sym same) here
     go (inr other) = still (get_or reads j (0, 0)) (told j (omega (arith, l, other)))
 
+-- a list with one more reading in front
+in_rest : (one : ℕ × ℕ) (row : List (ℕ × ℕ)) (reading : ℕ × ℕ) → Contains row reading → Contains (one ∷ row) reading
+in_rest one row reading (k, l, e) = (suc k, omega (arith, l), e)
+
+in_first : (one : ℕ × ℕ) (row : List (ℕ × ℕ)) (reading : ℕ × ℕ) → Contains (one ∷ row) reading → Contains row reading ⊎ (one ≡ reading)
+in_first one row reading (zero, l, e) = inr e
+in_first one row reading (suc k, l, e) = inl (k, omega (arith, l), e)
+
 -- one more reading in the row of its source
 module _ (rows : List (List (ℕ × ℕ))) (a : ℕ) (inside : a < length rows) (one : ℕ × ℕ) where
   abbrev longer : List (List (ℕ × ℕ))
-  longer = set rows a (row_of rows a ++ one ∷ [])
+  longer = set rows a (one ∷ row_of rows a)
 
-  here_longer : row_of longer a ≡ row_of rows a ++ one ∷ []
-  here_longer = get_or-set_same rows a (row_of rows a ++ one ∷ []) [] inside
+  here_longer : row_of longer a ≡ one ∷ row_of rows a
+  here_longer = get_or-set_same rows a (one ∷ row_of rows a) [] inside
 
   else_longer : (d : ℕ) → d ≢ a → row_of longer d ≡ row_of rows d
-  else_longer d other = get_or-set_other rows a d (row_of rows a ++ one ∷ []) [] other
+  else_longer d other = get_or-set_other rows a d (one ∷ row_of rows a) [] other
 
   pub push_wider : AreWider rows longer
   push_wider d reading there = go (cases_eq d a)
     where
       go : (d ≡ a) ⊎ (d ≢ a) → Contains (row_of longer d) reading
-      go (inl same) = rw (same, here_longer) (Contains-append_left (row_of rows a) (one ∷ []) reading (rw same at there))
+      go (inl same) = rw (same, here_longer) (in_rest one (row_of rows a) reading (rw same at there))
       go (inr other) = rw (else_longer d other) there
 
   pub push_there : Contains (row_of longer a) one
-  push_there = rw here_longer (Contains-push (row_of rows a) one)
+  push_there = rw here_longer (0, omega arith, refl)
 
   pub push_sound : (h : History) → (one.1 < length (keys h)) × IsReadsPair h a one.0 (key_at h one.1) → ((d : ℕ) → AreReadingsOf h d (row_of rows d))
       → (d : ℕ) → AreReadingsOf h d (row_of longer d)
@@ -182,7 +190,7 @@ module _ (rows : List (List (ℕ × ℕ))) (a : ℕ) (inside : a < length rows) 
       go (inr other) = sound d c p (rw (else_longer d other) at there)
       go (inl same) =
           subst (λ (z : ℕ). (p < length (keys h)) × IsReadsPair h z c (key_at h p)) (sym same)
-          (which (Contains-push_cases (row_of rows a) one (c, p) (rw (same, here_longer) at there)))
+          (which (in_first one (row_of rows a) (c, p) (rw (same, here_longer) at there)))
 
 -- each read is among them
 pub told_all : (h : History) (from : ℕ) (table : List (List ℕ)) (c : ℕ) (reads : List (ℕ × ℕ)) (rows : List (List (ℕ × ℕ)))
@@ -428,21 +436,35 @@ news_sorted h from table old new same sorted news = record {
   };
 }
 
--- one more row sorted, or one that is in order already
-pub sorted_none : (rows : List (List (ℕ × ℕ))) → AreSorted rows rows
-sorted_none rows a reading = (λ there. there, λ there. there)
+-- the first n rows have the same readings
+abbrev pub SortedBelow : List (List (ℕ × ℕ)) → List (List (ℕ × ℕ)) → ℕ → Type 0
+SortedBelow old new n = (a : ℕ) (reading : ℕ × ℕ) → a < n → Contains (row_of new a) reading ↔ Contains (row_of old a) reading
 
-pub sorted_more : (old mid : List (List (ℕ × ℕ))) (index : ℕ) (row : List (ℕ × ℕ)) → index < length mid → IsPermutation (row_of mid index) row
-    → AreSorted old mid → AreSorted old (set mid index row)
-sorted_more old mid index row inside permuted sorted a reading = go (cases_eq a index)
+pub sorted_none : (old new : List (List (ℕ × ℕ))) → SortedBelow old new 0
+sorted_none old new a reading l = absurd (omega (arith, l))
+
+-- one more row, in some order
+pub sorted_more : (old new : List (List (ℕ × ℕ))) (n : ℕ) (row : List (ℕ × ℕ)) → length new ≡ n → IsPermutation (row_of old n) row
+    → SortedBelow old new n → SortedBelow old (new ++ row ∷ []) (n + 1)
+sorted_more old new n row long permuted sorted a reading l = go (cases_eq a n)
   where
-    go : (a ≡ index) ⊎ (a ≢ index) → Contains (row_of (set mid index row) a) reading ↔ Contains (row_of old a) reading
-    go (inr other) = rw (get_or-set_other mid index a row [] other) (sorted a reading)
+    go : (a ≡ n) ⊎ (a ≢ n) → Contains (row_of (new ++ row ∷ []) a) reading ↔ Contains (row_of old a) reading
+    go (inr other) =
+        let less : a < n = omega (arith, l, other) in
+        rw (get_or_append_left new (row ∷ []) [] a (omega (arith, less, long))) (sorted a reading less)
     go (inl same) =
-        rw (same, get_or-set_same mid index row [] inside) (
-          λ there. (sorted index reading).0 (Contains-permutation row (row_of mid index) reading (IsPermutation-sym (row_of mid index) row permuted) there),
-          λ there. Contains-permutation (row_of mid index) row reading permuted ((sorted index reading).1 there),
+        rw (same, get_or_at new row [] [] n long) (
+          Contains-permutation row (row_of old n) reading (IsPermutation-sym (row_of old n) row permuted),
+          Contains-permutation (row_of old n) row reading permuted,
         )
+
+-- all rows
+pub sorted_all : (old new : List (List (ℕ × ℕ))) (n : ℕ) → n ≡ length old → length new ≡ n → SortedBelow old new n → AreSorted old new
+sorted_all old new n whole long sorted a reading = go (cases_lt a n)
+  where
+    go : (a < n) ⊎ (n ≤ a) → Contains (row_of new a) reading ↔ Contains (row_of old a) reading
+    go (inl less) = sorted a reading less
+    go (inr past) = rw (get_or_past new a [] (omega (arith, long, past)), get_or_past old a [] (omega (arith, whole, past))) (λ there. there, λ there. there)
 
 -- a transaction without readings tells nothing
 pub nothing_told : (h : History) (from : ℕ) (table : List (List ℕ)) (a : ℕ) (readings : List (ℕ × ℕ)) → AreNewsOf h from table a readings → readings ≡ []

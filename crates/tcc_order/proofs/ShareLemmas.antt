@@ -1,13 +1,13 @@
 -- Links from shares of the sessions: those from all sessions are all, and what shares have is joined.
-use Rattle.std.proofs.Common.{◌≡◌, ◌<◌, ◌≤◌, ◌+◌, ◌-◌, ◌*◌, ◌⊎◌, inl, inr, ℕ, zero, suc, List, [], ◌∷◌, ◌++◌, length, map, get_or, sym, ◌∙◌, ap, subst, zero-add, arith}
+use Rattle.std.proofs.Common.{◌≡◌, ◌≢◌, ◌<◌, ◌≤◌, ◌+◌, ◌-◌, ◌*◌, ◌⊎◌, inl, inr, ℕ, zero, suc, List, [], ◌∷◌, ◌++◌, length, map, get_or, refl, sym, ◌∙◌, ap, subst, zero-add, arith}
 use Rattle.std.specs.Prelude.{Contains, Ok, IfOk, min}
 use Rattle.std.specs.declared.result.Result.{Result}
 use Rattle.std.specs.List.{AllZip, range_with_len}
 use Rattle.rayon.specs.Numbers.{nat_range}
 use Rattle.std.specs.Int.{div_ceil}
-use Rattle.std.proofs.lemmas.Bool.{cases_lt}
+use Rattle.std.proofs.lemmas.Bool.{cases_eq, cases_lt}
 use Rattle.std.proofs.lemmas.Grind.{div_ceil_times}
-use Rattle.std.proofs.lemmas.List.{length-map}
+use Rattle.std.proofs.lemmas.List.{get_or_append_left, get_or_at, get_or_past, length-map}
 use Rattle.std.proofs.lemmas.List.FromFn.{get_or-range_with_len, length-range_with_len}
 use Rattle.std.proofs.lemmas.Slice.Zip.{AllZip-long}
 use Rattle.std.proofs.lemmas.List.Elements.{Contains-append_left, Contains-append_right, Contains-append_cases}
@@ -34,6 +34,32 @@ all_shared h sessions owned blocks are n some size sized last at kept links =
     let covered : blocks ≤ size * last = rw (sized, at) (div_ceil_times blocks n some).0 in
     let all : min (size * last) blocks ≡ blocks = omega (arith, covered) in
     all_links h sessions owned blocks are kept (rw all at links)
+
+-- the first n rows of two tables were joined
+abbrev pub JoinedBelow : List (List ℕ) → List (List ℕ) → List (List ℕ) → ℕ → Type 0
+JoinedBelow old more new n = (a : ℕ) → a < n → row_of new a ≡ row_of old a ++ row_of more a
+
+pub joined_more : (old more new : List (List ℕ)) (n : ℕ) (row : List ℕ) → length new ≡ n → row ≡ row_of old n ++ row_of more n → JoinedBelow old more new n
+    → JoinedBelow old more (new ++ row ∷ []) (n + 1)
+joined_more old more new n row long is below a l = go (cases_eq a n)
+  where
+    go : (a ≡ n) ⊎ (a ≢ n) → row_of (new ++ row ∷ []) a ≡ row_of old a ++ row_of more a
+    go (inl same) = rw (same, get_or_at new row [] [] n long) is
+    go (inr other) =
+        let less : a < n = omega (arith, l, other) in
+        rw (get_or_append_left new (row ∷ []) [] a (omega (arith, less, long))) (below a less)
+
+pub joined_all : (old more new : List (List ℕ)) (n : ℕ) → length old ≡ n → length more ≡ n → length new ≡ n → JoinedBelow old more new n → AreJoined old more new
+joined_all old more new n old_long more_long long below a = go (cases_lt a n)
+  where
+    go : (a < n) ⊎ (n ≤ a) → row_of new a ≡ row_of old a ++ row_of more a
+    go (inl less) = below a less
+    go (inr past) =
+        rw (
+          get_or_past new a [] (omega (arith, past, long)),
+          get_or_past old a [] (omega (arith, past, old_long)),
+          get_or_past more a [] (omega (arith, past, more_long)),
+        ) refl
 
 -- the links of a share after those of the shares before it
 module _ (h : History) (old more new : List (List ℕ)) (joined : AreJoined old more new) (first mid end : ℕ) where

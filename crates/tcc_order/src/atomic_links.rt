@@ -12,7 +12,7 @@ ghost use Rattle.tcc_order.specs.private.CausalLinks.{IsLifted, AreLinks, AreOrd
 ghost use Rattle.tcc_order.specs.private.AtomicLinks.{IsOther, IsReader, HaveParents, KeepsRead, KeepsInto};
 
 use crate::causal_links::{before_in_session, last_up_to, lift_session};
-use crate::rows::MadeRows;
+use crate::flat_rows::FlatRows;
 use std::alloc::{AllocError, Global};
 use tcc_bits::Row;
 use tcc_clocks::{find_parents, owners};
@@ -153,18 +153,22 @@ fn once(alloc: Global, places: &mut [usize], numbers: &[u32]) -> Result<Row<u32>
 }
 
 /// The transactions right before each one, each once.
-fn parents_of_each(alloc: Global, graph: &LargeGraph, parents: &[u32]) -> MadeRows<u32>
+fn parents_of_each(
+    alloc: Global,
+    graph: &LargeGraph,
+    parents: &[u32],
+) -> Result<FlatRows<u32>, NoMemory>
     requires numbered { IsBySession graph.now.entries }
     requires parents { ArePrevious graph.now parents.now }
-    ensures { IfOk result (λ rows. HaveParents graph.now (count graph.now) rows.items) }
+    ensures { IfOk result (HaveParents graph.now (count graph.now)) }
 {
     let mut places = vec![in alloc; 0usize; graph.count() as usize]?;
     let mut found = Vec::new(alloc);
-    let mut rows = Vec::new(alloc);
+    let mut rows = FlatRows::with_room(alloc, graph.count())?;
     for c in 0..graph.count() {
         find_parents(&mut found, graph, parents, c)?;
         let row = once(alloc, &mut places, &found)?;
-        rows.push(row)?;
+        rows.push(row.as_slice())?;
     }
     Ok(rows)
 }
@@ -175,7 +179,7 @@ fn links_into(
     places: &mut [usize],
     graph: &LargeGraph,
     owners: &[u32],
-    rows: &[Row<u32>],
+    rows: &FlatRows<u32>,
     a: u32,
 ) -> Result<Row<u32>, NoMemory>
     requires numbered { IsBySession graph.now.entries }
@@ -189,7 +193,7 @@ fn links_into(
     let mut kept = Row::new(Vec::new(alloc));
     let (readers, key_indices) = graph.readings_at(a);
     for (index, reader) in readers.iter().enumerate() {
-        let before = rows[*reader as usize].as_slice();
+        let before = rows.row(*reader);
         keep_read(
             &mut kept,
             places,
@@ -205,18 +209,22 @@ fn links_into(
 }
 
 /// The links at `Atomic` that are kept.
-pub(crate) fn atomic_links(alloc: Global, graph: &LargeGraph, parents: &[u32]) -> MadeRows<u32>
+pub(crate) fn atomic_links(
+    alloc: Global,
+    graph: &LargeGraph,
+    parents: &[u32],
+) -> Result<FlatRows<u32>, NoMemory>
     requires numbered { IsBySession graph.now.entries }
     requires parents { ArePrevious graph.now parents.now }
-    ensures { IfOk result (λ kept. AreLinks (atomically graph.now) kept.items) }
+    ensures { IfOk result (AreLinks (atomically graph.now)) }
 {
     let owners = owners(alloc, graph)?;
     let rows = parents_of_each(alloc, graph, parents)?;
     let mut places = vec![in alloc; 0usize; graph.count() as usize]?;
-    let mut kept = Vec::new(alloc);
+    let mut kept = FlatRows::with_room(alloc, graph.count())?;
     for a in 0..graph.count() {
         let into = links_into(alloc, &mut places, graph, &owners, &rows, a)?;
-        kept.push(into)?;
+        kept.push(into.as_slice())?;
     }
     Ok(kept)
 }

@@ -15,11 +15,10 @@ ghost use Rattle.tcc_order.specs.private.ByKey.{past_of, IsTop, AreAlike, IsLike
 ghost use Rattle.std.specs.List.Sorted.{IsNonDecreasing, IsPartitionPoint};
 ghost use Rattle.std.specs.Prelude.{nat_le, true, false, ◌∷◌, []};
 
+use crate::flat_rows::FlatRows;
 use crate::news::{find_news, no_writers};
-use crate::reading_rows::{Readings, no_readings};
-use crate::rows::{MadeRows, empty_rows};
+use crate::rows::refill;
 use std::alloc::Global;
-use tcc_bits::Row;
 use tcc_clocks::{
     Clock, SharedRows, Steps, WIDE, between, block_bounds, needed_blocks, owners, raise_each,
     span_of, steps_along,
@@ -281,7 +280,12 @@ fn are_alike(table: &SharedRows, readings: &[(u32, u32)], others: &[(u32, u32)])
 }
 
 /// Whether the readers of `a` are like those of the transaction before it in its session.
-fn is_like_before(owners: &[u32], table: &SharedRows, readings: &[Readings], a: u32) -> bool
+fn is_like_before(
+    owners: &[u32],
+    table: &SharedRows,
+    readings: &FlatRows<(u32, u32)>,
+    a: u32,
+) -> bool
     requires below { a < length owners.now }
     requires long { length readings.now ≡ length owners.now }
     requires readers { All (λ row. All (λ reading. reading.0 < length table.now) row) readings.now }
@@ -291,20 +295,20 @@ fn is_like_before(owners: &[u32], table: &SharedRows, readings: &[Readings], a: 
     if before == 0 {
         return false;
     }
-    let from_a = readings[a as usize].as_slice();
-    let from_before = readings[before as usize].as_slice();
+    let from_a = readings.row(a);
+    let from_before = readings.row(before);
     are_alike(table, from_a, from_before)
 }
 
 /// Whether more may have to be before `a` than what its clock holds, and than what has to be before the transaction before it
 /// in its session.
-fn has_more(owners: &[u32], table: &SharedRows, readings: &[Readings], a: u32) -> bool
+fn has_more(owners: &[u32], table: &SharedRows, readings: &FlatRows<(u32, u32)>, a: u32) -> bool
     requires below { a < length owners.now }
     requires long { length readings.now ≡ length owners.now }
     requires readers { All (λ row. All (λ reading. reading.0 < length table.now) row) readings.now }
     ensures { result ≡ false → (row_of readings.now a ≡ []) ⊎ IsLikeBefore owners.now table.now readings.now a }
 {
-    if readings[a as usize].as_slice().is_empty() {
+    if readings.row(a).is_empty() {
         return false;
     }
     !is_like_before(owners, table, readings, a)
@@ -312,11 +316,11 @@ fn has_more(owners: &[u32], table: &SharedRows, readings: &[Readings], a: u32) -
 
 /// Keeps the numbers that are greater than those of the clock and those of the run: what the run holds is kept already, into
 /// an earlier transaction of the session.
-fn keep(kept: &mut Row<u32>, need: &[u32], clock: &[u32], run: &mut [u32]) -> Result<(), NoMemory>
+fn keep(kept: &mut Vec<u32>, need: &[u32], clock: &[u32], run: &mut [u32]) -> Result<(), NoMemory>
     requires long { length need.now ≡ length clock.now }
     requires runs { length run.old ≡ length need.now }
     ensures same { length run.new ≡ length run.old }
-    ensures kept { OnOk result (KeepsNews need.now clock.now run.old run.new kept.old kept.new (length need.now)) }
+    ensures kept { OnOk result (KeepsNews need.now clock.now run.old run.new kept.old.items kept.new.items (length need.now)) }
 {
     for (session, number) in need.iter().enumerate() {
         let known = clock[session].max(run[session]);
@@ -328,38 +332,46 @@ fn keep(kept: &mut Row<u32>, need: &[u32], clock: &[u32], run: &mut [u32]) -> Re
     Ok(())
 }
 
-/// Keeps the links from the sessions of a block.
+/// The links that were kept, with those from the sessions of a block.
 fn keep_block(
-    kept: &mut [Row<u32>],
+    alloc: Global,
+    kept: &FlatRows<u32>,
     graph: &LargeGraph,
     owners: &[u32],
     from: u32,
     table: &SharedRows,
-    readings: &[Readings],
-) -> Result<(), NoMemory>
+    readings: &FlatRows<(u32, u32)>,
+) -> Result<FlatRows<u32>, NoMemory>
     requires numbered { IsBySession graph.now.entries }
     requires owners { AreOwners graph.now owners.now }
     requires clocks { AreClocks graph.now from table.now }
     requires readings { AreNews graph.now from table.now readings.now }
-    requires long { length kept.old ≡ count graph.now }
-    requires derived { AreDerived (Overwrites graph.now) kept.old }
-    ensures same { length kept.new ≡ length kept.old }
-    ensures derived { OnOk result (AreDerived (Overwrites graph.now) kept.new) }
-    ensures still { OnOk result (AreStillKept kept.old kept.new) }
-    ensures enough { OnOk result (AreEnough graph.now (Overwrites graph.now) (IsFrom graph.now from (from + WIDE)) kept.new) }
+    requires long { length kept.now ≡ count graph.now }
+    requires derived { AreDerived (Overwrites graph.now) kept.now }
+    ensures same { IfOk result (λ more. length more ≡ length kept.now) }
+    ensures derived { IfOk result (AreDerived (Overwrites graph.now)) }
+    ensures still { IfOk result (AreStillKept kept.now) }
+    ensures enough { IfOk result (AreEnough graph.now (Overwrites graph.now) (IsFrom graph.now from (from + WIDE))) }
 {
     let mut need = [0; WIDE];
     let mut run = [0; WIDE];
+    let mut row = Vec::new(alloc);
+    let mut more = FlatRows::with_room(alloc, graph.count())?;
     let bounds = block_bounds(owners, from);
     for a in 0..graph.count() {
         begin_session(&mut run, owners, a);
-        if has_more(owners, table, readings, a) {
-            let from_a = readings[a as usize].as_slice();
-            needed(&mut need, graph, owners, from, bounds, table, from_a, a);
-            keep(&mut kept[a as usize], &need, table.get(a), &mut run)?;
+        let before = kept.row(a);
+        if !has_more(owners, table, readings, a) {
+            more.push(before)?;
+            continue;
         }
+        let from_a = readings.row(a);
+        needed(&mut need, graph, owners, from, bounds, table, from_a, a);
+        refill(&mut row, before)?;
+        keep(&mut row, &need, table.get(a), &mut run)?;
+        more.push(&row)?;
     }
-    Ok(())
+    Ok(more)
 }
 
 /// What the search for the links from each block of sessions needs.
@@ -392,15 +404,14 @@ pub(crate) fn links_from(
     sweep: &Sweep<'_>,
     first: usize,
     end: usize,
-) -> MadeRows<u32>
+) -> Result<FlatRows<u32>, NoMemory>
     requires { IsSweep sweep.now }
-    ensures { IfOk result (λ kept. AreLinksFrom sweep.now.graph.now (first * WIDE) (end * WIDE) kept.items) }
+    ensures { IfOk result (AreLinksFrom sweep.now.graph.now (first * WIDE) (end * WIDE)) }
 {
     let graph = sweep.graph;
     let blocks = graph.sessions().len().div_ceil(WIDE);
-    let mut kept = empty_rows(alloc, graph.count())?;
+    let mut kept = FlatRows::empty(alloc, graph.count())?;
     let mut table = SharedRows::new(alloc, graph.count())?;
-    let mut readings = no_readings(alloc, graph.count())?;
     let mut last = no_writers(alloc, graph)?;
     let mut heads = vec![in alloc; 0; last.len()]?;
     for block in first..end.min(blocks) {
@@ -411,18 +422,10 @@ pub(crate) fn links_from(
         let owners = sweep.owners;
         let order = sweep.order;
         let steps = sweep.steps;
-        find_news(
-            &mut readings,
-            &mut last,
-            &mut heads,
-            owners,
-            from,
-            graph,
-            &mut table,
-            order,
-            steps,
+        let readings = find_news(
+            alloc, &mut last, &mut heads, owners, from, graph, &mut table, order, steps,
         )?;
-        keep_block(&mut kept, graph, owners, from, &table, &readings)?;
+        kept = keep_block(alloc, &kept, graph, owners, from, &table, &readings)?;
     }
     Ok(kept)
 }
@@ -433,11 +436,11 @@ pub(crate) fn causal_links(
     graph: &LargeGraph,
     parents: &[u32],
     order: &[u32],
-) -> MadeRows<u32>
+) -> Result<FlatRows<u32>, NoMemory>
     requires parents { ArePrevious graph.now parents.now }
     requires numbering { IsNumbering (count graph.now) order.now }
     requires onward { LeadsOnward graph.now order.now }
-    ensures { IfOk result (λ kept. AreLinks (causally graph.now) kept.items) }
+    ensures { IfOk result (AreLinks (causally graph.now)) }
 {
     let owners = owners(alloc, graph)?;
     let steps = steps_along(alloc, graph, parents, order)?;

@@ -10,14 +10,14 @@ ghost use Rattle.tcc_order.specs.{Placements.IsPlacement, Placements.IsPairPlace
 
 use crate::atomic_links::atomic_links;
 use crate::causal_links::causal_links;
+use crate::flat_rows::FlatRows;
 use crate::kahn::{Placed, first_placing};
 use crate::placement::{PairPlacement, Placement, Stuck};
-use crate::rows::empty_rows;
+use crate::rows::rows_apart;
 use crate::shares::causal_links_by;
 use std::alloc::Global;
 use std::thread::Threads;
 use tcc_base::Workers;
-use tcc_bits::Row;
 use tcc_clocks::previous_of_each;
 use tcc_graph::{LargeGraph, Level};
 use tcc_txn::NoMemory;
@@ -25,7 +25,7 @@ use tcc_txn::NoMemory;
 /// The links at a level that are kept, or where an order stops because causal pairs alone make a cycle.
 #[derive(Drop)]
 enum Links {
-    Kept(Vec<Row<u32>>),
+    Kept(FlatRows<u32>),
     Circle(Stuck),
 }
 
@@ -35,10 +35,13 @@ fn links_by_clocks(alloc: Global, graph: &LargeGraph, parents: &[u32]) -> Result
     requires parents { ArePrevious graph.now parents.now }
     ensures { IfOk result (AreFound (causally graph.now)) }
 {
-    let none = empty_rows(alloc, graph.count())?;
+    let none = FlatRows::empty(alloc, graph.count())?;
     match first_placing(alloc, graph, parents, &none)? {
         Placed::Order(order) => Ok(Links::Kept(causal_links(alloc, graph, parents, &order)?)),
-        Placed::Stuck(placed) => Ok(Links::Circle(Stuck { kept: none, placed })),
+        Placed::Stuck(placed) => {
+            let kept = rows_apart(alloc, &none, graph.count())?;
+            Ok(Links::Circle(Stuck { kept, placed }))
+        }
     }
 }
 
@@ -71,13 +74,16 @@ fn links_by_workers(
     requires parents { ArePrevious graph.now parents.now }
     ensures { IfOk result (AreFound (causally graph.now)) }
 {
-    let none = empty_rows(alloc, graph.count())?;
+    let none = FlatRows::empty(alloc, graph.count())?;
     match first_placing(alloc, graph, parents, &none)? {
         Placed::Order(order) => {
             let kept = causal_links_by(rt, alloc, graph, parents, &order, workers)?;
             Ok(Links::Kept(kept))
         }
-        Placed::Stuck(placed) => Ok(Links::Circle(Stuck { kept: none, placed })),
+        Placed::Stuck(placed) => {
+            let kept = rows_apart(alloc, &none, graph.count())?;
+            Ok(Links::Circle(Stuck { kept, placed }))
+        }
     }
 }
 
@@ -119,7 +125,10 @@ fn placed_with(
     };
     match first_placing(alloc, graph, parents, &kept)? {
         Placed::Order(order) => Ok(Placement::Order(order)),
-        Placed::Stuck(placed) => Ok(Placement::Stuck(Stuck { kept, placed })),
+        Placed::Stuck(placed) => {
+            let kept = rows_apart(alloc, &kept, graph.count())?;
+            Ok(Placement::Stuck(Stuck { kept, placed }))
+        }
     }
 }
 
@@ -171,7 +180,7 @@ pub fn place_pairs(alloc: Global, graph: &LargeGraph) -> Result<PairPlacement, N
 {
     graph.numbered();
     let parents = previous_of_each(alloc, graph)?;
-    let none = empty_rows(alloc, graph.count())?;
+    let none = FlatRows::empty(alloc, graph.count())?;
     match first_placing(alloc, graph, &parents, &none)? {
         Placed::Order(order) => Ok(PairPlacement::Order(order)),
         Placed::Stuck(placed) => Ok(PairPlacement::Stuck(placed)),

@@ -14,10 +14,11 @@ ghost use Rattle.tcc_order.specs.private.Precedences.{IsKnown, precedes};
 ghost use Rattle.tcc_order.specs.private.Queued.{AreQueued, AreSure, IsAny};
 ghost use Rattle.tcc_clocks.specs.Parents.{ArePrevious, sources};
 
+use crate::flat_rows::FlatRows;
 use crate::ready::Ready;
 use crate::waiting::Waiting;
 use std::alloc::{AllocError, Global};
-use tcc_bits::{Row, is_marked, mark, words_for};
+use tcc_bits::{is_marked, mark, words_for};
 use tcc_graph::LargeGraph;
 use tcc_txn::NoMemory;
 
@@ -35,7 +36,7 @@ struct Queue {
     woken: Vec<u32>,
     ready: Ready,
     waiting: Waiting,
-    seen: Vec<usize>,
+    seen: Vec<u32>,
 }
 
 /// The index, from this one on, of a transaction that is read from and was not placed.
@@ -88,7 +89,7 @@ struct Precedence<'a> {
     /// For each transaction the one before it in its session.
     parents: &'a [u32],
     /// For each transaction the sources of the links that are kept into it.
-    kept: &'a [Row<u32>],
+    kept: &'a FlatRows<u32>,
 }
 
 impl Precedence<'_> {
@@ -105,7 +106,7 @@ impl Precedence<'_> {
         if let Some(index) = missing_source(reads, placed, seen) {
             return Some((reads[index].1, index));
         }
-        let row = self.kept[x as usize].as_slice();
+        let row = self.kept.row(x);
         let index = missing_of(row, placed, seen.saturating_sub(reads.len()))?;
         Some((row[index], reads.len().saturating_add(index)))
     }
@@ -142,10 +143,11 @@ impl Precedence<'_> {
         ensures sure { OnOk result (AreSure (precedes self.now) placed.now queue.new.ready) }
     {
         while let Some(number) = queue.woken.pop() {
-            let seen = queue.seen[number as usize];
+            let seen = queue.seen[number as usize] as usize;
             match self.missing(placed, number, seen) {
                 Some((other, place)) => {
-                    queue.seen[number as usize] = place;
+                    // a place that has no room begins anew
+                    queue.seen[number as usize] = u32::try_from(place).unwrap_or(0);
                     queue.waiting.push(other, number)?;
                 }
                 None => queue.ready.push(number)?,
@@ -223,7 +225,7 @@ fn first_queue(alloc: Global, parents: &[u32], count: u32) -> Result<Queue, NoMe
 {
     let woken = roots(alloc, parents)?;
     let waiting = Waiting::new(alloc, count)?;
-    let seen = vec![in alloc; 0usize; count as usize]?;
+    let seen = vec![in alloc; 0; count as usize]?;
     Ok(Queue {
         woken,
         ready: Ready::new(alloc),
@@ -238,7 +240,7 @@ pub(crate) fn first_placing(
     alloc: Global,
     graph: &LargeGraph,
     parents: &[u32],
-    kept: &[Row<u32>],
+    kept: &FlatRows<u32>,
 ) -> Result<Placed, NoMemory>
     requires parents { ArePrevious graph.now parents.now }
     requires long { length kept.now ≡ count graph.now }

@@ -16,7 +16,8 @@ ghost use Rattle.tcc_order.specs.private.CausalLinks.{HasNone};
 ghost use Rattle.tcc_order.specs.private.News.{AreNews, AreNoted, AreRaised, AreReadingsOf, AreWider, HasClock, HasHeads, HaveHeads, HaveRisen, IsFloor, IsHead, IsHeld, IsKnown, IsTold, KeepHeads, KeepsHead, NoneBefore, TellsNone, known_of};
 
 use crate::block_start::{block_start, zeros_before};
-use crate::reading_rows::{Readings, clear_all, sort_all};
+use crate::flat_rows::FlatRows;
+use crate::reading_rows::Readings;
 use std::alloc::{AllocError, Global};
 use tcc_clocks::{
     Clock, SharedRows, Side, Steps, WIDE, between, block_bounds, put_row, raise_each,
@@ -173,7 +174,7 @@ fn are_sources_same(table: &SharedRows, found: &[u32], c: u32) -> bool
 /// Adds the reads of a transaction that may tell more of what it reads from: none if the transactions that it reads from have
 /// its row.
 fn add_readings(
-    rows: &mut [Readings],
+    rows: &mut Readings,
     last: &[Clock],
     heads: &[u32],
     owners: &[u32],
@@ -212,7 +213,7 @@ fn add_readings(
         if may_tell(
             last, heads, owners, from, floor, graph, table, c, key_index, a,
         ) {
-            rows[a as usize].push((c, key_index))?;
+            rows.push(a, (c, key_index))?;
         }
     }
     Ok(())
@@ -348,7 +349,7 @@ fn note_writer(
 /// adds the readings that may tell more of their source than its clock does. What was noted before in other blocks may still
 /// be there.
 fn add_along(
-    rows: &mut [Readings],
+    rows: &mut Readings,
     last: &mut [Clock],
     heads: &mut [u32],
     owners: &[u32],
@@ -394,7 +395,7 @@ fn add_along(
 /// Finds the clocks of a block of sessions, and the readings that may tell more of their source than its clock does, grouped
 /// by key. It goes along an order in which causal pairs lead onward.
 pub(crate) fn find_news(
-    rows: &mut [Readings],
+    alloc: Global,
     last: &mut [Clock],
     heads: &mut [u32],
     owners: &[u32],
@@ -403,7 +404,7 @@ pub(crate) fn find_news(
     table: &mut SharedRows,
     order: &[u32],
     steps: &Steps,
-) -> Result<(), NoMemory>
+) -> Result<FlatRows<(u32, u32)>, NoMemory>
     requires numbered { IsBySession graph.now.entries }
     requires owners { AreOwners graph.now owners.now }
     requires numbering { IsNumbering (count graph.now) order.now }
@@ -412,19 +413,17 @@ pub(crate) fn find_news(
     requires table { length table.old ≡ count graph.now }
     requires beside { length heads.old ≡ length last.old }
     requires some { 0 < length last.old }
-    requires long { length rows.old ≡ count graph.now }
-    ensures same { length rows.new ≡ length rows.old }
     ensures rows { length last.new ≡ length last.old }
     ensures heads { length heads.new ≡ length heads.old }
     ensures clocks { OnOk result (AreClocks graph.now from table.new) }
-    ensures news { OnOk result (AreNews graph.now from table.new rows.new) }
+    ensures news { IfOk result (AreNews graph.now from table.new) }
 {
-    clear_all(rows);
     let start = block_start(order, owners, from);
     zeros_before(table, order, start)?;
+    let mut found = Readings::new(alloc, graph.count())?;
     add_along(
-        rows, last, heads, owners, from, graph, table, order, start, steps,
+        &mut found, last, heads, owners, from, graph, table, order, start, steps,
     )?;
-    sort_all(rows);
-    Ok(())
+    let rows = found.sorted(alloc, graph.count())?;
+    Ok(rows)
 }

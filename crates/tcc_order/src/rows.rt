@@ -1,8 +1,9 @@
-//! Tables of empty rows.
-ghost use Rattle.std.specs.Prelude.{◌≡◌, length, IfOk};
+//! Tables whose rows are lists of their own, and a row that is reused.
+ghost use Rattle.std.specs.Prelude.{◌≡◌, length, IfOk, OnOk};
 ghost use Rattle.tcc_order.specs.private.CausalLinks.{HasNone};
 
-use std::alloc::Global;
+use crate::flat_rows::FlatRows;
+use std::alloc::{AllocError, Global};
 use tcc_bits::Row;
 use tcc_txn::NoMemory;
 
@@ -19,4 +20,28 @@ pub(crate) fn empty_rows<T: Copy>(alloc: Global, count: u32) -> MadeRows<T>
         rows.push(Row::new(Vec::new(alloc)))?;
     }
     Ok(rows)
+}
+
+/// The rows of one list, each as a list of its own.
+pub(crate) fn rows_apart(alloc: Global, flat: &FlatRows<u32>, count: u32) -> MadeRows<u32>
+    requires { length flat.now ≡ count }
+    ensures { IfOk result (λ rows. rows.items ≡ flat.now) }
+{
+    let mut rows = Vec::new(alloc);
+    for number in 0..count {
+        let mut row = Vec::new(alloc);
+        row.extend_from_slice(flat.row(number))?;
+        let list = Row::new(row);
+        rows.push(list)?;
+    }
+    Ok(rows)
+}
+
+/// Puts these numbers into a list that is reused.
+pub(crate) fn refill(row: &mut Vec<u32>, numbers: &[u32]) -> Result<(), AllocError>
+    ensures { OnOk result (row.new.items ≡ numbers.now) }
+{
+    row.clear();
+    row.extend_from_slice(numbers)?;
+    Ok(())
 }

@@ -2,7 +2,7 @@
 //! No block depends on another. The results of the shares are joined in the order of the blocks, as one thread would add them.
 //! Each share has tables of its own: at most a row of 64 numbers for each transaction, and 32 MiB for keys. So there are at
 //! most as many shares as fit into `ROWS_AT_ONCE` rows.
-ghost use Rattle.std.specs.Prelude.{◌≡◌, ◌<◌, ◌≤◌, ◌+◌, ◌*◌, ◌⊎◌, ◌++◌, ℕ, length, IfOk, OnOk};
+ghost use Rattle.std.specs.Prelude.{◌≡◌, ◌<◌, ◌≤◌, ◌+◌, ◌*◌, ◌⊎◌, ℕ, length, IfOk};
 ghost use Rattle.tcc_reads.specs.History.{count};
 ghost use Rattle.tcc_graph.specs.{Levels.causally, Tables.row_of, Orders.IsNumbering};
 ghost use Rattle.tcc_clocks.specs.{Parents.ArePrevious, Clocks.LeadsOnward, declared.latest.TheConstants.WIDE};
@@ -10,12 +10,12 @@ ghost use Rattle.tcc_order.specs.private.CausalLinks.{AreJoined, AreLinks, AreLi
 ghost use Rattle.tcc_order.specs.private.Sweeps.{HaveLinks, IsSweep, start_of};
 
 use crate::causal_links::{Sweep, links_from};
-use crate::rows::{MadeRows, empty_rows};
+use crate::flat_rows::FlatRows;
+use crate::rows::refill;
 use rayon::prelude::*;
 use std::alloc::Global;
 use std::thread::Threads;
 use tcc_base::Workers;
-use tcc_bits::Row;
 use tcc_clocks::{WIDE, needed_blocks, owners, steps_along};
 use tcc_graph::LargeGraph;
 use tcc_txn::NoMemory;
@@ -57,17 +57,17 @@ fn all_shares(
     alloc: Global,
     sweep: &Sweep<'_>,
     shares: &Shares,
-) -> Result<Vec<Vec<Row<u32>>>, NoMemory>
+) -> Result<Vec<FlatRows<u32>>, NoMemory>
     requires { IsSweep sweep.now }
     ensures { IfOk result (λ parts. HaveLinks sweep.now.graph.now shares.now parts.items) }
 {
     (0..shares.count)
         .into_par_iter()
         .map(
-            |share: u32| -> Result<Vec<Row<u32>>, NoMemory>
+            |share: u32| -> Result<FlatRows<u32>, NoMemory>
                 requires sweep { IsSweep sweep.now }
                 requires share { share < shares.now.count }
-                ensures { IfOk result (λ kept. AreLinksFrom sweep.entry.now.graph.now (start_of shares.entry.now share * WIDE) (start_of shares.entry.now (share + 1) * WIDE) kept.items) }
+                ensures { IfOk result (AreLinksFrom sweep.entry.now.graph.now (start_of shares.entry.now share * WIDE) (start_of shares.entry.now (share + 1) * WIDE)) }
             {
                 let first = shares.start(share as usize);
                 let end = shares.start(share as usize + 1);
@@ -75,29 +75,31 @@ fn all_shares(
             },
         )
         .with_min_len(1)
-        .collect::<Result<Vec<Vec<Row<u32>>>, NoMemory>>(rt, alloc)?
+        .collect::<Result<Vec<FlatRows<u32>>, NoMemory>>(rt, alloc)?
 }
 
-/// Puts these numbers after those of a row.
-fn extend(row: &mut Row<u32>, numbers: &[u32]) -> Result<(), NoMemory>
-    ensures { OnOk result (row.new ≡ row.old ++ numbers.now) }
+/// The links of a share after those of the shares before it.
+fn join(
+    alloc: Global,
+    count: u32,
+    kept: &FlatRows<u32>,
+    part: &FlatRows<u32>,
+) -> Result<FlatRows<u32>, NoMemory>
+    requires long { length kept.now ≡ count }
+    requires same { length part.now ≡ count }
+    ensures same { IfOk result (λ joined. length joined ≡ count) }
+    ensures joined { IfOk result (AreJoined kept.now part.now) }
 {
-    for number in numbers {
-        row.push(*number)?;
+    let mut row = Vec::new(alloc);
+    let mut joined = FlatRows::with_room(alloc, count)?;
+    for number in 0..count {
+        let before = kept.row(number);
+        let more = part.row(number);
+        refill(&mut row, before)?;
+        row.extend_from_slice(more)?;
+        joined.push(&row)?;
     }
-    Ok(())
-}
-
-/// Puts the links of a share after those of the shares before it.
-fn join(kept: &mut [Row<u32>], part: &[Row<u32>]) -> Result<(), NoMemory>
-    requires { length part.now ≡ length kept.old }
-    ensures same { length kept.new ≡ length kept.old }
-    ensures joined { OnOk result (AreJoined kept.old part.now kept.new) }
-{
-    for (number, row) in part.iter().enumerate() {
-        extend(&mut kept[number], row.as_slice())?;
-    }
-    Ok(())
+    Ok(joined)
 }
 
 /// The links of all shares, in their order.
@@ -105,14 +107,14 @@ fn joined(
     alloc: Global,
     graph: &LargeGraph,
     shares: &Shares,
-    parts: &[Vec<Row<u32>>],
-) -> MadeRows<u32>
+    parts: &[FlatRows<u32>],
+) -> Result<FlatRows<u32>, NoMemory>
     requires { HaveLinks graph.now shares.now parts.now }
-    ensures { IfOk result (λ kept. AreLinksFrom graph.now 0 (start_of shares.now (length parts.now) * WIDE) kept.items) }
+    ensures { IfOk result (AreLinksFrom graph.now 0 (start_of shares.now (length parts.now) * WIDE)) }
 {
-    let mut kept = empty_rows(alloc, graph.count())?;
+    let mut kept = FlatRows::empty(alloc, graph.count())?;
     for part in parts {
-        join(&mut kept, part)?;
+        kept = join(alloc, graph.count(), &kept, part)?;
     }
     Ok(kept)
 }
@@ -125,11 +127,11 @@ pub(crate) fn causal_links_by(
     parents: &[u32],
     order: &[u32],
     workers: Workers,
-) -> MadeRows<u32>
+) -> Result<FlatRows<u32>, NoMemory>
     requires parents { ArePrevious graph.now parents.now }
     requires numbering { IsNumbering (count graph.now) order.now }
     requires onward { LeadsOnward graph.now order.now }
-    ensures { IfOk result (λ kept. AreLinks (causally graph.now) kept.items) }
+    ensures { IfOk result (AreLinks (causally graph.now)) }
 {
     let owners = owners(alloc, graph)?;
     let steps = steps_along(alloc, graph, parents, order)?;

@@ -23,9 +23,9 @@ impl Model for Waiting {
 
     ghost Value = { List (List ℕ) };
 
-    ghost view = { λ w. map (chain w.links.items) w.starts.items };
+    ghost view = { λ w. map (chain 0 w.links.items) w.starts.items };
 
-    ghost invariant = { λ w. LeadBack w.links.items × All (λ start. start ≤ length w.links.items) w.starts.items };
+    ghost invariant = { λ w. LeadBack 0 w.links.items × All (λ start. start ≤ length w.links.items) w.starts.items };
 }
 
 impl Waiting {

@@ -1,5 +1,5 @@
 -- What transactions write and read by the indices of the keys, and the table of which read from which.
-use Rattle.std.specs.Prelude.{ℕ, ◌<◌, ◌≤◌, ◌≡◌, ◌==◌, Bool, true, false, List, [], ◌++◌, length, map, filter, slice_index_or, All}
+use Rattle.std.specs.Prelude.{ℕ, ◌+◌, ◌<◌, ◌≤◌, ◌≡◌, ◌==◌, Bool, true, false, List, [], ◌++◌, length, map, filter, slice_index, slice_index_or, All}
 use Rattle.tcc_txn.specs.declared.limits.TheConstants.{LARGE_COUNT}
 use Rattle.std.specs.List.Sorted.{IsStrictlySortedBy}
 use Rattle.tcc_reads.specs.History.{Entry, History, IsBySession, initial}
@@ -22,6 +22,16 @@ pub record AddsReads (old : List (List (ℕ × ℕ))) (new : List (List (ℕ × 
 pub record IsSourceTable (count : ℕ) (reads : ℕ → List (ℕ × ℕ)) (n : ℕ) (table : List (List (ℕ × ℕ))) : Type 0 where
   pub long : length table ≡ count
   pub rows : (a : ℕ) → a < count → row_of table a ≡ groups (λ b. values_from (reads b) a) n
+
+-- each count is more by how many of the reads have that source
+pub record CountsReads (old : List ℕ) (new : List ℕ) (reads : List (ℕ × ℕ)) : Type 0 where
+  pub long : length new ≡ length old
+  pub each : (a : ℕ) → a < length old → slice_index new a ≡ slice_index old a + length (values_from reads a)
+
+-- of each transaction how often the first n transactions read from it
+pub record AreReadCounts (count : ℕ) (reads : ℕ → List (ℕ × ℕ)) (n : ℕ) (counts : List ℕ) : Type 0 where
+  pub long : length counts ≡ count
+  pub each : (a : ℕ) → a < count → slice_index counts a ≡ length (groups (λ b. values_from (reads b) a) n)
 
 -- the history of these transactions, without sessions: the relations don't need them
 abbrev pub over : List Entry → History

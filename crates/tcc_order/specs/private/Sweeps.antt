@@ -6,14 +6,13 @@ use Rattle.tcc_clocks.specs.Clocks.{AreOwners, LeadsOnward}
 use Rattle.tcc_clocks.specs.Needed.{AreNeeded}
 use Rattle.tcc_clocks.specs.Parents.{AreSteps}
 use Rattle.tcc_clocks.specs.declared.latest.TheConstants.{WIDE}
-use Rattle.std.specs.Global.{Vec}
 use Rattle.tcc_order.specs.private.CausalLinks.{AreLinksFrom}
 use Rattle.tcc_order.specs.declared.causal_links.Sweep.{Sweep}
 use Rattle.tcc_order.specs.declared.shares.Shares.{Shares}
 
 -- a row for each transaction
 abbrev pub Links : Type 0
-Links = Vec (List ℕ)
+Links = List (List ℕ)
 
 -- each part of it is what its name says
 pub record IsSweep (s : Sweep) : Type 0 where
@@ -31,4 +30,4 @@ start_of s share = min (s.size * share) s.blocks
 -- each share has the links from its sessions
 pub record HaveLinks (h : History) (s : Shares) (parts : List Links) : Type 0 where
   pub long : length parts ≡ s.count
-  pub each : (share : ℕ) (d : Links) → share < s.count → AreLinksFrom h (start_of s share * WIDE) (start_of s (share + 1) * WIDE) (slice_index_or parts share d).items
+  pub each : (share : ℕ) (d : Links) → share < s.count → AreLinksFrom h (start_of s share * WIDE) (start_of s (share + 1) * WIDE) (slice_index_or parts share d)

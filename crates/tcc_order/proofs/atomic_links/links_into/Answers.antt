@@ -1,13 +1,12 @@
 use Rattle.std.proofs.Common.{◌≡◌, ◌<◌, ◌∙◌, ℕ, [], get_or, arith}
-use Rattle.std.proofs.lemmas.List.{get_or_default}
 use Rattle.tcc_reads.specs.History.{count}
 use Rattle.tcc_graph.specs.Tables.{row_of}
 use Rattle.tcc_order.proofs.Readings.{reader_below}
 use Rattle.tcc_order.proofs.Stepped.{some_more, some_all}
 use Rattle.tcc_order.proofs.atomic_links.links_into.Goals as goal
 
-pub bounds-rows-reader : goal.bounds-rows-reader
-bounds-rows-reader c =
+pub row-before-requires : goal.row-before-requires
+row-before-requires c =
     let readings = c.readings_at.ensures in
     let below = reader_below c.args.graph.now c.args.a _ _ readings.long readings.each c.loop-index.index c.loop-index-test.true in
     omega (arith, below, c.requires.rows.long)
@@ -19,9 +18,7 @@ keep_read-requires-clause-reader c =
     let readings = c.readings_at.ensures in
     let reader : ℕ = get_or c.readings_at.result.0.now c.loop-index.index 0 in
     let below : reader < count h = reader_below h c.args.a _ _ readings.long readings.each c.loop-index.index c.loop-index-test.true in
-    let was : get_or rows reader c.index-rows-reader.result ≡ row_of rows reader
-    = get_or_default rows reader c.index-rows-reader.result [] (omega (arith, below, c.requires.rows.long)) in
-    let is : c.as_slice-before.result.now ≡ row_of rows reader = cc (was, c.as_slice-before.ensures, c.index-rows-reader.is) in
+    let is : c.row-before.result.now ≡ row_of rows reader = c.row-before.ensures in
     record { numbered = c.requires.numbered; owned = c.requires.owners; below = below; before = rw is (c.requires.rows.each reader below) }
 
 pub loop-index-preserved : goal.loop-index-preserved

@@ -5,7 +5,7 @@ use Rattle.tcc_reads.specs.History.{count}
 use Rattle.tcc_clocks.specs.Parents.{parents}
 use Rattle.tcc_clocks.proofs.Along.{parents_below}
 use Rattle.tcc_order.specs.private.AtomicLinks.{HasParents, HaveParents}
-use Rattle.tcc_order.proofs.Stepped.{parents_more}
+use Rattle.tcc_order.proofs.Stepped.{parents_more, parents_none}
 use Rattle.tcc_order.proofs.atomic_links.parents_of_each.Goals as goal
 
 pub once-requires : goal.once-requires
@@ -18,6 +18,11 @@ once-requires c =
           (parents_below h c.requires.numbered c.loop-c.c low c.in_ok-find_parents.ensures.sources);
     }
 
+pub loop-c-init : goal.loop-c-init
+loop-c-init c =
+    let long : length c.in_ok-places.places.items ≡ count c.args.graph.now = search rules in
+    rw c.in_ok-rows.ensures (long, parents_none c.args.graph.now)
+
 pub loop-c-preserved : goal.loop-c-preserved
 loop-c-preserved c =
     let h = c.args.graph.now in
@@ -25,14 +30,14 @@ loop-c-preserved c =
     let old = c.loop-c.places.items in
     let same : length new ≡ length old = rw c.deref_mut.ensures.value at c.once.ensures.same in
     let long : c.loop-c.places.len ≡ length old = search rules in
-    let pushed : c.push.new.self.items ≡ c.loop-c.rows.items ++ c.in_ok-row.row ∷ [] = search rules in
+    let pushed : c.push.new.self ≡ c.loop-c.rows ++ c.in_ok-row.row ∷ [] = rw c.as_slice.ensures at c.in_ok-push.ensures in
     let listed : (b : ℕ) → Contains c.in_ok-row.row b ↔ Contains (parents h c.loop-c.c) b
     = rw (c.deref.ensures.value, c.in_ok-find_parents.ensures.found) at c.in_ok-row.ensures.listed in
     let has : HasParents h c.loop-c.c c.in_ok-row.row = record { listed = listed; sources = c.in_ok-find_parents.ensures.sources } in
-    rw (take_at new _ c.loop-c.places.len (same ∙ sym long), pushed) (same ∙ c.loop-c.invariant.0, parents_more h c.loop-c.c c.loop-c.rows.items c.in_ok-row.row c.loop-c.invariant.1 has)
+    rw (take_at new _ c.loop-c.places.len (same ∙ sym long), pushed) (same ∙ c.loop-c.invariant.0, parents_more h c.loop-c.c c.loop-c.rows c.in_ok-row.row c.loop-c.invariant.1 has)
 
 pub returns : goal.returns
 returns c =
     let h = c.args.graph.now in
     let all : c.loop-c.c ≡ count h = search rules in
-    subst (λ (n : ℕ). HaveParents h n c.loop-c.rows.items) all c.loop-c.invariant.1
+    subst (λ (n : ℕ). HaveParents h n c.loop-c.rows) all c.loop-c.invariant.1

@@ -14,5 +14,5 @@ links_from-requires c = record {
 
 pub returns : goal.returns
 returns c =
-    IfOk-weaker c.links_from.result _ _ (λ kept are. all_links c.args.graph.now _ c.sessions.ensures.owners c.div_ceil.result c.div_ceil.ensures kept.items are)
+    IfOk-weaker c.links_from.result _ _ (λ kept are. all_links c.args.graph.now _ c.sessions.ensures.owners c.div_ceil.result c.div_ceil.ensures kept are)
     c.links_from.ensures

@@ -7,7 +7,7 @@ use Rattle.tcc_order.proofs.causal_links.links_from.Goals as goal
 pub loop-block-init : goal.loop-block-init
 loop-block-init c =
     let h = c.args.sweep.now.graph.now in
-    let kept = c.in_ok-kept.kept.items in
+    let kept = c.in_ok-kept.kept in
     let long : length kept ≡ count h = search rules in (
       search rules,
       long,
@@ -15,11 +15,7 @@ loop-block-init c =
       (λ a b over some meant. absurd (omega (arith, meant.0, meant.1))),
       search rules,
       search rules,
-      search rules,
     )
-
-pub keep_block-requires-clause-derived : goal.keep_block-requires-clause-derived
-keep_block-requires-clause-derived c = rw c.deref_mut-in-loop-block-3.ensures.value c.loop-block.invariant.2
 
 pub loop-block-preserved-then-not-is_needed : goal.loop-block-preserved-then-not-is_needed
 loop-block-preserved-then-not-is_needed c =
@@ -29,47 +25,33 @@ loop-block-preserved-then-not-is_needed c =
       inv.0,
       inv.1,
       inv.2,
-      block_passed h c.loop-block.kept.items c.args.sweep.now.needed.now c.requires.needed c.args.first c.loop-block.block unmarked inv.3,
+      block_passed h c.loop-block.kept c.args.sweep.now.needed.now c.requires.needed c.args.first c.loop-block.block unmarked inv.3,
       inv.4,
       inv.5,
-      inv.6,
     )
-
-pub keep_block-requires-clause-readings : goal.keep_block-requires-clause-readings
-keep_block-requires-clause-readings c =
-    let new = c.find_news.new.rows in
-    let old = c.loop-block.readings.items in
-    let same : length new ≡ length old = rw c.deref_mut.ensures.value at c.find_news.ensures.same in
-    let long : c.loop-block.readings.len ≡ length old = search rules in
-    rw (c.deref.ensures.value, take_at new _ c.loop-block.readings.len (same ∙ sym long)) c.in_ok-find_news.ensures.news
 
 pub loop-block-preserved : goal.loop-block-preserved
 loop-block-preserved c =
     let h = c.args.sweep.now.graph.now in
-    let new = c.keep_block.new.kept in
-    let old = c.loop-block.kept.items in
+    let old = c.loop-block.kept in
     let inv = c.loop-block.invariant in
-    let same : length new ≡ length old = rw c.deref_mut-in-loop-block-3.ensures.value at c.in_ok-keep_block.ensures.same in
-    let long : c.loop-block.kept.len ≡ length old = search rules in
     let last = c.find_news.new.last in
-    let kept_last : length last ≡ length c.loop-block.last.items = rw c.deref_mut-in-loop-block.ensures.value at c.find_news.ensures.rows in
+    let kept_last : length last ≡ length c.loop-block.last.items = rw c.deref_mut.ensures.value at c.find_news.ensures.rows in
     let long_last : c.loop-block.last.len ≡ length c.loop-block.last.items = search rules in
     let heads = c.find_news.new.heads in
-    let kept_heads : length heads ≡ length c.loop-block.heads.items = rw c.deref_mut-in-loop-block-2.ensures.value at c.find_news.ensures.heads in
+    let kept_heads : length heads ≡ length c.loop-block.heads.items = rw c.deref_mut-in-loop-block.ensures.value at c.find_news.ensures.heads in
     let long_heads : c.loop-block.heads.len ≡ length c.loop-block.heads.items = search rules in
     rw (
-      take_at new _ c.loop-block.kept.len (same ∙ sym long),
       take_at last _ c.loop-block.last.len (kept_last ∙ sym long_last),
       take_at heads _ c.loop-block.heads.len (kept_heads ∙ sym long_heads),
     ) (
-      c.in_ok-find_news.ensures.clocks.long,
-      same ∙ inv.1,
-      c.in_ok-keep_block.ensures.derived,
-      block_kept h old new c.args.first c.loop-block.block (rw c.deref_mut-in-loop-block-3.ensures.value at c.in_ok-keep_block.ensures.still) inv.3
-          c.in_ok-keep_block.ensures.enough,
-      search rules,
-      kept_last ∙ inv.5,
-      kept_heads ∙ inv.6,
+      c.in_ok-readings.ensures.clocks.long,
+      c.in_ok-kept-2.ensures.same ∙ inv.1,
+      c.in_ok-kept-2.ensures.derived,
+      block_kept h old _ c.args.first c.loop-block.block c.in_ok-kept-2.ensures.still inv.3
+          c.in_ok-kept-2.ensures.enough,
+      kept_last ∙ inv.4,
+      kept_heads ∙ inv.5,
     )
 
 pub returns : goal.returns

@@ -7,9 +7,8 @@ use Rattle.tcc_order.proofs.causal_links.links_from.Given as goal
 abbrev pub invariant-loop-block : goal.invariant-loop-block
 invariant-loop-block l =
     (length l.table ≡ count l.sweep.graph.now)
-    × (length l.kept.items ≡ count l.sweep.graph.now)
-    × AreDerived (Overwrites l.sweep.graph.now) l.kept.items
-    × AreEnough l.sweep.graph.now (Overwrites l.sweep.graph.now) (IsFrom l.sweep.graph.now (l.first * WIDE) (l.block * WIDE)) l.kept.items
-    × (length l.readings.items ≡ count l.sweep.graph.now)
+    × (length l.kept ≡ count l.sweep.graph.now)
+    × AreDerived (Overwrites l.sweep.graph.now) l.kept
+    × AreEnough l.sweep.graph.now (Overwrites l.sweep.graph.now) (IsFrom l.sweep.graph.now (l.first * WIDE) (l.block * WIDE)) l.kept
     × (length l.last.items ≡ length l.initial.last.items)
     × (length l.heads.items ≡ length l.initial.heads.items)

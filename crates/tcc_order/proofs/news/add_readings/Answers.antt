@@ -1,5 +1,5 @@
 use Rattle.std.proofs.Common.{◌≡◌, ◌<◌, ◌∷◌, ◌++◌, ◌∙◌, inl, inr, ℕ, [], length, get_or, set, refl, arith}
-use Rattle.std.proofs.lemmas.List.{get_or_default, length-set}
+use Rattle.std.proofs.lemmas.List.{length-set}
 use Rattle.tcc_graph.specs.Relations.{IsReadsPair}
 use Rattle.tcc_graph.specs.Keys.{keys, key_at}
 use Rattle.tcc_graph.specs.Tables.{row_of}
@@ -29,14 +29,12 @@ loop-read-preserved c =
     elim c.if-may_tell.branch [
       | then-may_tell+in_ok-push w ↦ (
           let one : ℕ × ℕ = (c.args.c, key_index) in
-          let was : get_or old a w.index-rows-a.result ≡ row_of old a = get_or_default old a w.index-rows-a.result [] low in
-          let pushed : w.push.new.self ≡ row_of old a ++ one ∷ [] = rw was at w.in_ok-push.ensures.ok in
-          let wider : AreWider old (set old a (row_of old a ++ one ∷ [])) = push_wider old a low one in
-          rw (w.rows-is, pushed) (
+          let wider : AreWider old (set old a (one ∷ row_of old a)) = push_wider old a low one in
+          rw (w.rows-is, w.in_ok-push.ensures.value) (
             length-set old a _ ∙ inv.0,
             λ d reading there. wider d reading (inv.1 d reading there),
             push_sound old a low one h real inv.2,
-            told_more h from table c.args.c reads old (set old a (row_of old a ++ one ∷ [])) n wider inv.3 (inl (key_index, refl, push_there old a low one)),
+            told_more h from table c.args.c reads old (set old a (one ∷ row_of old a)) n wider inv.3 (inl (key_index, refl, push_there old a low one)),
           )
           )
       | else-may_tell w ↦ rw w.rows-is (

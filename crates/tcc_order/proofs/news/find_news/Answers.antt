@@ -9,5 +9,9 @@ zeros_before-requires-clause-below c = rw c.requires.table c.requires.numbering.
 
 pub returns-clause-news : goal.returns-clause-news
 returns-clause-news c =
-    news_sorted c.args.graph.now c.args.from c.add_along.new.table c.add_along.new.rows c.sort_all.new.rows c.sort_all.ensures.same c.sort_all.ensures.each
-    c.in_ok-add_along.ensures.news
+    let news = c.in_ok-add_along.ensures.news in
+    news_sorted c.args.graph.now c.args.from c.add_along.new.table c.add_along.new.rows c.in_ok-rows.rows (omega (arith, c.in_ok-rows.ensures.same, news.long)) c.in_ok-rows.ensures.each
+    news
+
+pub sorted-rows-requires : goal.sorted-rows-requires
+sorted-rows-requires c = omega (arith, c.in_ok-add_along.ensures.news.long)

@@ -24,5 +24,5 @@ returns g c =
     let numbers = chain.1 ∙ numbers_below _ _ n c.into_par_iter.ensures.0 c.into_par_iter.ensures.1 in
     matched c.in_ok-collect.field-0 _ _ _ gave.2 (λ v made.
     let each =
-    each_given NoMemory (λ share (kept : Links). AreLinksFrom h (start_of s share * WIDE) (start_of s (share + 1) * WIDE) kept.items) n chain.0 gave.0 v.items numbers chain.2 made in
+    each_given NoMemory (λ share (kept : Links). AreLinksFrom h (start_of s share * WIDE) (start_of s (share + 1) * WIDE) kept) n chain.0 gave.0 v.items numbers chain.2 made in
     record { long = each.0; each = λ share d l. each.1 share d l })

@@ -23,4 +23,4 @@ pub returns : goal.returns
 returns g c =
     IfOk-weaker c.joined.result _ _ (λ kept are. all_shared c.args.graph.now _ c.sessions.ensures.owners c.div_ceil-blocks.result
     c.div_ceil-blocks.ensures c.shares_for-count.result c.shares_for-count.ensures.some c.div_ceil.result c.div_ceil.ensures
-    (length c.deref-4.result.now) (ap length c.deref-4.ensures.value ∙ c.in_ok-parts.ensures.long) kept.items are) c.joined.ensures
+    (length c.deref-4.result.now) (ap length c.deref-4.ensures.value ∙ c.in_ok-parts.ensures.long) kept are) c.joined.ensures

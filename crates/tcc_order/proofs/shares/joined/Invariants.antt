@@ -5,4 +5,4 @@ use Rattle.tcc_order.specs.private.Sweeps.{start_of}
 use Rattle.tcc_order.proofs.shares.joined.Given as goal
 
 abbrev pub invariant-loop-part : goal.invariant-loop-part
-invariant-loop-part l = AreLinksFrom l.graph 0 (start_of l.shares l.part-index * WIDE) l.kept.items
+invariant-loop-part l = AreLinksFrom l.graph 0 (start_of l.shares l.part-index * WIDE) l.kept

@@ -39,7 +39,7 @@ invariant_of-result c =
     let indexed : List Indexed = c.in_ok-keys.field-0.indexed.items in
     let are : AreIndexed names entries indexed = c.in_ok-keys.ensures.indexed in
     let long : c.len.result ≡ length names = omega (arith, c.len.ensures) in
-    subst (λ es. IsGraph sessions es names indexed c.in_ok-key_indices.key_indices.items c.in_ok-rows.rows.items) (sym (names_again names entries indexed are))
+    subst (λ es. IsGraph sessions es names indexed c.in_ok-key_indices.key_indices c.in_ok-rows.rows.items) (sym (names_again names entries indexed are))
     (record {
       few_sessions = rw c.parts_of-sessions.ensures.sessions.0 c.parts_of-sessions.ensures.sessions.1;
       some = list.some;

@@ -20,10 +20,10 @@ low c =
     (Contains-append_left (c.pop.new.self.items ++ c.in-Some.number ∷ []) c.loop-number.queue.ready c.in-Some.number
     (Contains-push c.pop.new.self.items c.in-Some.number))
 
-pub index-seen-requires : goal.index-seen-requires
-index-seen-requires c =
+pub index-requires : goal.index-requires
+index-requires c =
     let long : c.loop-number.queue.seen.len ≡ length c.loop-number.queue.seen.items = search rules in
-    omega (arith, low (goal.at.index-seen-requires c).In-Some, long, c.loop-number.invariant.0, c.requires.known.parents.long)
+    omega (arith, low (goal.at.index-requires c).In-Some, long, c.loop-number.invariant.0, c.requires.known.parents.long)
 
 pub missing-requires-clause-below : goal.missing-requires-clause-below
 missing-requires-clause-below c = omega (arith, low (goal.at.missing-requires-clause-below c).In-Some, c.requires.known.parents.long)
@@ -56,7 +56,7 @@ loop-number-preserved-in-Continue-1 c =
     (λ y there left. last_woken rest ready number y there) (λ y there. other_woken rest ready number y there) in
     let put : c.push.new.self ≡ set waiting other (number ∷ row_of waiting other) = c.in_ok-push-in-Some-missing.ensures in
     rw put (
-      length-set c.loop-number.queue.seen.items number c.in-Some-missing.place ∙ c.loop-number.invariant.0,
+      length-set c.loop-number.queue.seen.items number c.unwrap_or.result ∙ c.loop-number.invariant.0,
       queued_parked (holds h kept) ps placed (rest ++ ready) waiting number other after
           (omega (arith, ends.1, c.requires.known.parents.long)) (omega (arith, ends.0, c.requires.known.parents.long)) c.in-Some-missing.ensures.1
           c.in-Some-missing.ensures.0,

@@ -19,8 +19,7 @@ returns-in_err-index c =
     let h = c.args.self.now.graph.now in
     let kept = c.args.self.now.kept.now in
     let x = c.args.x in
-    let row : c.as_slice-row.result.now ≡ row_of kept x
-    = c.as_slice-row.ensures ∙ get_or_default kept x c.index-self-x.result [] (omega (arith, c.requires.below, c.requires.known.long)) in
+    let row : c.row-row.result.now ≡ row_of kept x = c.row-row.ensures in
     let links : (k : ℕ) → c.saturating_sub.result ≤ k → k < length (row_of kept x) → is_marked c.args.placed.now (slice_index (row_of kept x) k) ≡ true
     = rw row at c.in_err-index.ensures in
     rw c.from_residual.ensures (λ zero b there.
@@ -31,8 +30,7 @@ pub returns : goal.returns
 returns c =
     let kept = c.args.self.now.kept.now in
     let x = c.args.x in
-    let row : c.as_slice-row.result.now ≡ row_of kept x
-    = c.as_slice-row.ensures ∙ get_or_default kept x c.index-self-x.result [] (omega (arith, c.requires.below, c.requires.known.long)) in
+    let row : c.row-row.result.now ≡ row_of kept x = c.row-row.ensures in
     let w : (c.in_ok-index.index < length (row_of kept x)) × (is_marked c.args.placed.now (slice_index (row_of kept x) c.in_ok-index.index) ≡ false)
     = rw row at c.in_ok-index.ensures in
     rw row (

@@ -6,4 +6,4 @@ pub returns-clause-none : goal.returns-clause-none
 returns-clause-none c =
     let empty : c.new.result.items ≡ [] = search rules in
     let zeros : c.in_ok-starts.starts.items ≡ replicate c.args.count 0 = search rules in
-    rw (empty, zeros) (none_waiting [] c.args.count)
+    rw (empty, zeros) (none_waiting 0 [] c.args.count)

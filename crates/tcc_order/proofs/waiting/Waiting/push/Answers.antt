@@ -14,5 +14,5 @@ returns c =
     let low : next ≤ length links = rw here (c.self.invariant.1 b 0 inside) in
     let pushed : c.push.new.self.items ≡ links ++ (c.args.x, next) ∷ [] = search rules in
     let start : c.in-Ok.start ≡ length links + 1 = search rules in
-    rw (← c.self.view_is, pushed, chain_row links starts b inside, ← here)
-    (chain_pushed links c.self.invariant.0 c.args.x next starts b c.self.invariant.1 low c.in-Ok.start start)
+    rw (← c.self.view_is, pushed, chain_row 0 links starts b inside, ← here)
+    (chain_pushed 0 links c.self.invariant.0 c.args.x next starts b c.self.invariant.1 low c.in-Ok.start start)

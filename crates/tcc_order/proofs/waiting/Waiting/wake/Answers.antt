@@ -33,4 +33,4 @@ returns c = λ y.
     let inside : b < length starts = rw (← c.self.view_is, length-map) at c.requires in
     let here : c.index-start.result.now ≡ slice_index starts b = get_or_read starts b c.index-start.result.now inside c.index-start.ensures 0 in
     let none : c.loop-start.start ≡ 0 = omega (arith, c.loop-start-test.false) in
-    rw (← c.self.view_is, chain_row links starts b inside, ← here) (chain_ended links c.loop-start.start none c.loop-start.woken.items y _ (c.loop-start.invariant.1 y))
+    rw (← c.self.view_is, chain_row 0 links starts b inside, ← here) (chain_ended links c.loop-start.start none c.loop-start.woken.items y _ (c.loop-start.invariant.1 y))
