@@ -15,8 +15,8 @@ use Rattle.tcc_reads.specs.Sources.{name_cmp}
 use Rattle.tcc_graph.specs.Relations.{session_pair, causal_pair, has_items, reads_from, IsReadsPair, AreInOrder}
 use Rattle.tcc_graph.specs.Keys.{has_name, keys, is_key, writes, writers, readers}
 use Rattle.tcc_graph.specs.private.Grouped.{of_group, groups}
-use Rattle.tcc_reads.specs.Indexed.{Indexed}
-use Rattle.tcc_graph.specs.private.ReadTables.{over, indexed_of, values_from, HasReadsInOrder, AreIndexed, IsIndexTable}
+use Rattle.tcc_reads.specs.Indexed.{Indexed, indexed_of}
+use Rattle.tcc_graph.specs.private.ReadTables.{over, values_from, HasReadsInOrder, AreIndexed, IsIndexTable}
 use Rattle.tcc_graph.specs.KeyIndices.{IsAbsent, name_of}
 use Rattle.tcc_graph.specs.Tables.{row_of}
 use Rattle.tcc_graph.specs.private.KeyRows.{KeyRow, key_row_of, marked, writes_key, reads_key, IsKeyTable}

@@ -15,8 +15,8 @@ use Rattle.tcc_graph.specs.Keys.{has_name, keys, keys_of}
 use Rattle.tcc_graph.specs.private.Grouped.{as_group, groups}
 use Rattle.tcc_graph.specs.KeyIndices.{name_of, StandsAt}
 use Rattle.tcc_graph.specs.Tables.{row_of}
-use Rattle.tcc_reads.specs.Indexed.{Indexed, named, entry_of, entries_of}
-use Rattle.tcc_graph.specs.private.ReadTables.{over, values_from, indexed_of, unindexed, history_of, IsIndexed, AreIndexed, IsIndexTable, HasSources}
+use Rattle.tcc_reads.specs.Indexed.{Indexed, named, entry_of, entries_of, indexed_of, unindexed}
+use Rattle.tcc_graph.specs.private.ReadTables.{over, values_from, history_of, IsIndexed, AreIndexed, IsIndexTable, HasSources}
 use Rattle.tcc_graph.proofs.NameLemmas.{bytes_eq-same, bytes_eq-other, indices_differ, contains-has_name}
 use Rattle.tcc_graph.proofs.KeysLemmas.{has_name-keys}
 

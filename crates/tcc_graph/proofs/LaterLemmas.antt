@@ -7,8 +7,8 @@ use Rattle.std.proofs.Math.Nat.{lt_of_not-le}
 use Rattle.std.proofs.lemmas.Bool.{cases_lt, leb-true, leb-false}
 use Rattle.tcc_reads.specs.History.{History, IsBySession, count, owner, place}
 use Rattle.tcc_graph.specs.Relations.{IsSessionPair}
-use Rattle.tcc_reads.specs.Indexed.{Indexed, entries_of}
-use Rattle.tcc_graph.specs.private.ReadTables.{indexed_of, unindexed, history_of}
+use Rattle.tcc_reads.specs.Indexed.{Indexed, entries_of, indexed_of, unindexed}
+use Rattle.tcc_graph.specs.private.ReadTables.{history_of}
 use Rattle.tcc_graph.proofs.IndexedLemmas.{count_is, owner_is}
 use Rattle.tcc_graph.proofs.Pairs.{PairParts, pair_parts, lower_first, initial_pair}
 

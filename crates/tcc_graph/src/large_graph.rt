@@ -17,7 +17,7 @@ use crate::validity::{is_link, is_writer};
 use crate::{Level, Link, Step};
 use std::alloc::Global;
 use std::marker::Model;
-use tcc_reads::{HistoryParts, Indexed, LargeResolved};
+use tcc_reads::{HistoryParts, LargeResolved, Transactions};
 use tcc_txn::{Name, NoMemory};
 
 /// The session order and the reads-from pairs of a history whose reads are resolved, up to the large limits. Number 0 is the
@@ -27,7 +27,7 @@ use tcc_txn::{Name, NoMemory};
 pub struct LargeGraph {
     sessions: Vec<Name>,
     keys: Vec<Name>,
-    indexed: Vec<Indexed>,
+    indexed: Transactions,
     key_indices: GroupedRows,
     rows: Vec<KeyRow>,
 }
@@ -39,9 +39,9 @@ impl Model for LargeGraph {
 
     ghost Value = { History };
 
-    ghost view = { λ g. history_of g.sessions.items g.keys.items g.indexed.items };
+    ghost view = { λ g. history_of g.sessions.items g.keys.items g.indexed };
 
-    ghost invariant = { λ g. IsGraph g.sessions.items (entries_of g.keys.items g.indexed.items) g.keys.items g.indexed.items g.key_indices g.rows.items };
+    ghost invariant = { λ g. IsGraph g.sessions.items (entries_of g.keys.items g.indexed) g.keys.items g.indexed g.key_indices g.rows.items };
 }
 
 impl LargeGraph {
@@ -102,8 +102,8 @@ impl LargeGraph {
         if n == 0 {
             return None;
         }
-        let transaction = self.indexed.get(n as usize)?;
-        Some((transaction.owner(), transaction.place()))
+        let place = self.indexed.places().get(n as usize)?;
+        Some(*place)
     }
 
     /// Whether `a` is before `b` in session order: `init` before all others, and in one session the lower place first.
@@ -115,9 +115,9 @@ impl LargeGraph {
         if a == 0 || b == 0 {
             return b != 0;
         }
-        let from = &self.indexed[a as usize];
-        let to = &self.indexed[b as usize];
-        from.owner() == to.owner() && from.place() < to.place()
+        let from = self.indexed.place(a as usize);
+        let to = self.indexed.place(b as usize);
+        from.0 == to.0 && from.1 < to.1
     }
 
     /// The transaction right before another in session order: the one before it in its session, or else `init`.
@@ -147,8 +147,9 @@ impl LargeGraph {
         if u == 0 {
             return (1, self.count());
         }
-        let owner = self.indexed[u as usize].owner();
-        let end = self.indexed.partition_point(|other| other.owner() <= owner);
+        let places = self.indexed.places();
+        let owner = places[u as usize].0;
+        let end = places.partition_point(|place| place.0 <= owner);
         (u + 1, end as u32)
     }
 
@@ -286,7 +287,7 @@ impl LargeGraph {
         ensures value { map (λ read. (key_at self.now read.0, read.1)) result.now ≡ (entry_at self.now c).reads }
         ensures within { All (λ read. (read.0 < length (keys self.now)) × (read.1 < count self.now)) result.now }
     {
-        self.indexed[c as usize].reads()
+        self.indexed.reads(c as usize)
     }
 
     /// The indices of the keys that a transaction writes visibly, ascending; none for `init`, which writes every key.
@@ -295,7 +296,7 @@ impl LargeGraph {
         ensures value { map (key_at self.now) result.now ≡ (entry_at self.now b).writes }
         ensures within { All (λ key_index. key_index < length (keys self.now)) result.now }
     {
-        self.indexed[b as usize].writes()
+        self.indexed.writes(b as usize)
     }
 
     /// `init` for number 0, else the name of the session, a slash and the place.
@@ -306,9 +307,8 @@ impl LargeGraph {
         if n == 0 {
             return Ok(format!(in alloc; "init")?);
         }
-        let transaction = &self.indexed[n as usize];
-        let session = self.sessions[transaction.owner() as usize];
-        let place = transaction.place();
+        let (owner, place) = self.indexed.place(n as usize);
+        let session = self.sessions[owner as usize];
         Ok(format!(in alloc; "{session}/{place}")?)
     }
 }

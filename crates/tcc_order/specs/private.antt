@@ -6,7 +6,6 @@ pub mod Precedences
 pub mod Placed
 pub mod Queued
 pub mod Chains
-pub mod Flat
 pub mod CausalLinks
 pub mod Sweeps
 pub mod ByKey

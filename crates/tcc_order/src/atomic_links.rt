@@ -12,11 +12,11 @@ ghost use Rattle.tcc_order.specs.private.CausalLinks.{IsLifted, AreLinks, AreOrd
 ghost use Rattle.tcc_order.specs.private.AtomicLinks.{IsOther, IsReader, HaveParents, KeepsRead, KeepsInto};
 
 use crate::causal_links::{before_in_session, last_up_to, lift_session};
-use crate::flat_rows::FlatRows;
 use std::alloc::{AllocError, Global};
 use tcc_bits::Row;
 use tcc_clocks::{find_parents, owners};
 use tcc_graph::LargeGraph;
+use tcc_reads::FlatRows;
 use tcc_txn::NoMemory;
 
 /// The last writer other than `a` before `c` in its session, or 0 if there is none.
@@ -193,7 +193,7 @@ fn links_into(
     let mut kept = Row::new(Vec::new(alloc));
     let (readers, key_indices) = graph.readings_at(a);
     for (index, reader) in readers.iter().enumerate() {
-        let before = rows.row(*reader);
+        let before = rows.row(*reader as usize);
         keep_read(
             &mut kept,
             places,

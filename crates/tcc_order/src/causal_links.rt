@@ -15,7 +15,6 @@ ghost use Rattle.tcc_order.specs.private.ByKey.{past_of, IsTop, AreAlike, IsLike
 ghost use Rattle.std.specs.List.Sorted.{IsNonDecreasing, IsPartitionPoint};
 ghost use Rattle.std.specs.Prelude.{nat_le, true, false, ◌∷◌, []};
 
-use crate::flat_rows::FlatRows;
 use crate::news::{find_news, no_writers};
 use crate::rows::refill;
 use std::alloc::Global;
@@ -24,6 +23,7 @@ use tcc_clocks::{
     span_of, steps_along,
 };
 use tcc_graph::LargeGraph;
+use tcc_reads::FlatRows;
 use tcc_txn::NoMemory;
 
 /// Up to this many writers of a key are visited one by one.
@@ -295,8 +295,8 @@ fn is_like_before(
     if before == 0 {
         return false;
     }
-    let from_a = readings.row(a);
-    let from_before = readings.row(before);
+    let from_a = readings.row(a as usize);
+    let from_before = readings.row(before as usize);
     are_alike(table, from_a, from_before)
 }
 
@@ -308,7 +308,7 @@ fn has_more(owners: &[u32], table: &SharedRows, readings: &FlatRows<(u32, u32)>,
     requires readers { All (λ row. All (λ reading. reading.0 < length table.now) row) readings.now }
     ensures { result ≡ false → (row_of readings.now a ≡ []) ⊎ IsLikeBefore owners.now table.now readings.now a }
 {
-    if readings.row(a).is_empty() {
+    if readings.row(a as usize).is_empty() {
         return false;
     }
     !is_like_before(owners, table, readings, a)
@@ -360,12 +360,12 @@ fn keep_block(
     let bounds = block_bounds(owners, from);
     for a in 0..graph.count() {
         begin_session(&mut run, owners, a);
-        let before = kept.row(a);
+        let before = kept.row(a as usize);
         if !has_more(owners, table, readings, a) {
             more.push(before)?;
             continue;
         }
-        let from_a = readings.row(a);
+        let from_a = readings.row(a as usize);
         needed(&mut need, graph, owners, from, bounds, table, from_a, a);
         refill(&mut row, before)?;
         keep(&mut row, &need, table.get(a), &mut run)?;

@@ -10,7 +10,6 @@ ghost use Rattle.tcc_order.specs.{Placements.IsPlacement, Placements.IsPairPlace
 
 use crate::atomic_links::atomic_links;
 use crate::causal_links::causal_links;
-use crate::flat_rows::FlatRows;
 use crate::kahn::{Placed, first_placing};
 use crate::placement::{PairPlacement, Placement, Stuck};
 use crate::rows::rows_apart;
@@ -20,6 +19,7 @@ use std::thread::Threads;
 use tcc_base::Workers;
 use tcc_clocks::previous_of_each;
 use tcc_graph::{LargeGraph, Level};
+use tcc_reads::FlatRows;
 use tcc_txn::NoMemory;
 
 /// The links at a level that are kept, or where an order stops because causal pairs alone make a cycle.

@@ -14,12 +14,12 @@ ghost use Rattle.tcc_order.specs.private.Precedences.{IsKnown, precedes};
 ghost use Rattle.tcc_order.specs.private.Queued.{AreQueued, AreSure, IsAny};
 ghost use Rattle.tcc_clocks.specs.Parents.{ArePrevious, sources};
 
-use crate::flat_rows::FlatRows;
 use crate::ready::Ready;
 use crate::waiting::Waiting;
 use std::alloc::{AllocError, Global};
 use tcc_bits::{is_marked, mark, words_for};
 use tcc_graph::LargeGraph;
+use tcc_reads::FlatRows;
 use tcc_txn::NoMemory;
 
 /// The order of all transactions; or, if none can be placed next, marks of those that were placed.
@@ -106,7 +106,7 @@ impl Precedence<'_> {
         if let Some(index) = missing_source(reads, placed, seen) {
             return Some((reads[index].1, index));
         }
-        let row = self.kept.row(x);
+        let row = self.kept.row(x as usize);
         let index = missing_of(row, placed, seen.saturating_sub(reads.len()))?;
         Some((row[index], reads.len().saturating_add(index)))
     }

@@ -7,7 +7,6 @@ mod block_start;
 mod causal_links;
 mod clocks_along;
 mod commit_order;
-mod flat_rows;
 mod kahn;
 pub mod laws;
 mod news;

@@ -16,13 +16,13 @@ ghost use Rattle.tcc_order.specs.private.CausalLinks.{HasNone};
 ghost use Rattle.tcc_order.specs.private.News.{AreNews, AreNoted, AreRaised, AreReadingsOf, AreWider, HasClock, HasHeads, HaveHeads, HaveRisen, IsFloor, IsHead, IsHeld, IsKnown, IsTold, KeepHeads, KeepsHead, NoneBefore, TellsNone, known_of};
 
 use crate::block_start::{block_start, zeros_before};
-use crate::flat_rows::FlatRows;
 use crate::reading_rows::Readings;
 use std::alloc::{AllocError, Global};
 use tcc_clocks::{
     Clock, SharedRows, Side, Steps, WIDE, between, block_bounds, put_row, raise_each,
 };
 use tcc_graph::LargeGraph;
+use tcc_reads::FlatRows;
 use tcc_txn::NoMemory;
 
 /// How many rows of last writers there are at most: 32 MiB.

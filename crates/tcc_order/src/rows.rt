@@ -2,9 +2,9 @@
 ghost use Rattle.std.specs.Prelude.{◌≡◌, length, IfOk, OnOk};
 ghost use Rattle.tcc_order.specs.private.CausalLinks.{HasNone};
 
-use crate::flat_rows::FlatRows;
 use std::alloc::{AllocError, Global};
 use tcc_bits::Row;
+use tcc_reads::FlatRows;
 use tcc_txn::NoMemory;
 
 /// Rows, or the error that memory is out.
@@ -30,7 +30,7 @@ pub(crate) fn rows_apart(alloc: Global, flat: &FlatRows<u32>, count: u32) -> Mad
     let mut rows = Vec::new(alloc);
     for number in 0..count {
         let mut row = Vec::new(alloc);
-        row.extend_from_slice(flat.row(number))?;
+        row.extend_from_slice(flat.row(number as usize))?;
         let list = Row::new(row);
         rows.push(list)?;
     }

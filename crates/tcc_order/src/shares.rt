@@ -10,7 +10,6 @@ ghost use Rattle.tcc_order.specs.private.CausalLinks.{AreJoined, AreLinks, AreLi
 ghost use Rattle.tcc_order.specs.private.Sweeps.{HaveLinks, IsSweep, start_of};
 
 use crate::causal_links::{Sweep, links_from};
-use crate::flat_rows::FlatRows;
 use crate::rows::refill;
 use rayon::prelude::*;
 use std::alloc::Global;
@@ -18,6 +17,7 @@ use std::thread::Threads;
 use tcc_base::Workers;
 use tcc_clocks::{WIDE, needed_blocks, owners, steps_along};
 use tcc_graph::LargeGraph;
+use tcc_reads::FlatRows;
 use tcc_txn::NoMemory;
 
 /// How many rows the tables of all shares have at most, if there is more than one share: 1 GiB.
@@ -93,8 +93,8 @@ fn join(
     let mut row = Vec::new(alloc);
     let mut joined = FlatRows::with_room(alloc, count)?;
     for number in 0..count {
-        let before = kept.row(number);
-        let more = part.row(number);
+        let before = kept.row(number as usize);
+        let more = part.row(number as usize);
         refill(&mut row, before)?;
         row.extend_from_slice(more)?;
         joined.push(&row)?;

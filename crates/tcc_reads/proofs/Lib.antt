@@ -19,3 +19,5 @@ pub mod Rewrites
 pub mod Traces
 pub mod StoredEntries
 pub mod OneSource
+pub mod FlatLemmas
+pub mod ListsLemmas

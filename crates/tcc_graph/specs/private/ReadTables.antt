@@ -3,7 +3,7 @@ use Rattle.std.specs.Prelude.{ℕ, ◌+◌, ◌<◌, ◌≤◌, ◌≡◌, ◌==
 use Rattle.tcc_txn.specs.declared.limits.TheConstants.{LARGE_COUNT}
 use Rattle.std.specs.List.Sorted.{IsStrictlySortedBy}
 use Rattle.tcc_reads.specs.History.{Entry, History, IsBySession, initial}
-use Rattle.tcc_reads.specs.Indexed.{Indexed, entries_of, named}
+use Rattle.tcc_reads.specs.Indexed.{Indexed, entries_of, indexed_of, named}
 use Rattle.tcc_reads.specs.Sources.{pair_cmp}
 use Rattle.tcc_graph.specs.private.Grouped.{as_group, groups}
 use Rattle.tcc_graph.specs.KeyIndices.{name_of}
@@ -36,13 +36,6 @@ pub record AreReadCounts (count : ℕ) (reads : ℕ → List (ℕ × ℕ)) (n : 
 -- the history of these transactions, without sessions: the relations don't need them
 abbrev pub over : List Entry → History
 over entries = record { sessions = []; entries = entries }
-
--- `init`
-abbrev pub unindexed : Indexed
-unindexed = record { owner = 0; place = 0; writes = []; reads = [] }
-
-abbrev pub indexed_of : List Indexed → ℕ → Indexed
-indexed_of indexed n = slice_index_or indexed n unindexed
 
 -- the history of these sessions and transactions
 abbrev pub history_of : List (List ℕ) → List (List ℕ) → List Indexed → History

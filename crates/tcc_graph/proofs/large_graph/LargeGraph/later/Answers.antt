@@ -5,8 +5,8 @@ use Rattle.std.proofs.lemmas.List.{get_or_read}
 use Rattle.std.proofs.lemmas.List.Sorted.{IsPartitionPoint-from_clause}
 use Rattle.tcc_reads.specs.History.{History, count}
 use Rattle.tcc_graph.specs.Relations.{IsSessionPair}
-use Rattle.tcc_reads.specs.Indexed.{Indexed}
-use Rattle.tcc_graph.specs.private.ReadTables.{indexed_of, unindexed, history_of}
+use Rattle.tcc_reads.specs.Indexed.{Indexed, indexed_of, unindexed}
+use Rattle.tcc_graph.specs.private.ReadTables.{history_of}
 use Rattle.tcc_graph.proofs.IndexedLemmas.{count_is}
 use Rattle.tcc_graph.proofs.LaterLemmas.{parted, ends}
 use Rattle.tcc_graph.proofs.large_graph.LargeGraph.later.Goals.{After-partition_point-end}

@@ -1,0 +1,43 @@
+-- Transactions from the lists in which they are held.
+use Rattle.std.proofs.Common.{◌≡◌, ◌<◌, ℕ, zero, suc, List, [], ◌∷◌, ◌++◌, length, map, drop, get_or, refl, ap, arith}
+use Rattle.tcc_reads.specs.Indexed.{Indexed, indexed_of}
+use Rattle.tcc_reads.specs.private.Lists.{transactions_of}
+
+-- a row of the rest
+later_row : {T : Type 0} (rows : List (List T)) (n : ℕ) → get_or (drop 1 rows) n [] ≡ get_or rows (suc n) []
+later_row [] n = refl
+later_row (row ∷ rows) n = refl
+
+pub transactions_long : (ps : List (ℕ × ℕ)) (ws : List (List ℕ)) (rs : List (List (ℕ × ℕ))) → length (transactions_of ps ws rs) ≡ length ps
+transactions_long [] ws rs = refl
+transactions_long (p ∷ ps) ws rs = ap suc (transactions_long ps (drop 1 ws) (drop 1 rs))
+
+pub transactions_places : (ps : List (ℕ × ℕ)) (ws : List (List ℕ)) (rs : List (List (ℕ × ℕ)))
+    → ps ≡ map {B = ℕ × ℕ} (λ t. (t.owner, t.place)) (transactions_of ps ws rs)
+transactions_places [] ws rs = refl
+transactions_places (p ∷ ps) ws rs = ap (λ (l : List (ℕ × ℕ)). p ∷ l) (transactions_places ps (drop 1 ws) (drop 1 rs))
+
+pub transactions_writes : (ps : List (ℕ × ℕ)) (ws : List (List ℕ)) (rs : List (List (ℕ × ℕ))) (n : ℕ) → n < length ps
+    → get_or ws n [] ≡ (indexed_of (transactions_of ps ws rs) n).writes
+transactions_writes [] ws rs n l = absurd (omega (arith, l))
+transactions_writes (p ∷ ps) ws rs zero l = refl
+transactions_writes (p ∷ ps) ws rs (suc n) l = rw (← later_row ws n) (transactions_writes ps (drop 1 ws) (drop 1 rs) n (omega (arith, l)))
+
+pub transactions_reads : (ps : List (ℕ × ℕ)) (ws : List (List ℕ)) (rs : List (List (ℕ × ℕ))) (n : ℕ) → n < length ps
+    → get_or rs n [] ≡ (indexed_of (transactions_of ps ws rs) n).reads
+transactions_reads [] ws rs n l = absurd (omega (arith, l))
+transactions_reads (p ∷ ps) ws rs zero l = refl
+transactions_reads (p ∷ ps) ws rs (suc n) l = rw (← later_row rs n) (transactions_reads ps (drop 1 ws) (drop 1 rs) n (omega (arith, l)))
+
+pub transactions_pushed : (ps : List (ℕ × ℕ)) (ws : List (List ℕ)) (rs : List (List (ℕ × ℕ))) → length ws ≡ length ps → length rs ≡ length ps
+    → (p : ℕ × ℕ) (w : List ℕ) (r : List (ℕ × ℕ))
+    → transactions_of (ps ++ p ∷ []) (ws ++ w ∷ []) (rs ++ r ∷ [])
+    ≡ transactions_of ps ws rs ++ record { owner = p.0; place = p.1; writes = w; reads = r } ∷ []
+transactions_pushed [] [] [] wl rl p w r = refl
+transactions_pushed [] (w' ∷ ws) rs wl rl p w r = absurd (omega (arith, wl))
+transactions_pushed [] [] (r' ∷ rs) wl rl p w r = absurd (omega (arith, rl))
+transactions_pushed (q ∷ ps) [] rs wl rl p w r = absurd (omega (arith, wl))
+transactions_pushed (q ∷ ps) (w' ∷ ws) [] wl rl p w r = absurd (omega (arith, rl))
+transactions_pushed (q ∷ ps) (w' ∷ ws) (r' ∷ rs) wl rl p w r =
+    ap (λ (l : List Indexed). record { owner = q.0; place = q.1; writes = w'; reads = r' } ∷ l)
+    (transactions_pushed ps ws rs (omega (arith, wl)) (omega (arith, rl)) p w r)
