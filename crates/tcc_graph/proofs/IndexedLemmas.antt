@@ -157,11 +157,8 @@ module _ (names : List (List ℕ)) (entries : List Entry) (indexed : List Indexe
     pub indexed_sources : All (λ p. All (λ read. read.1 < length indexed) p.reads) indexed
     indexed_sources n d h = rw (get_or_default indexed n d unindexed h, are.long) (from_sources n (omega (arith, are.long)))
 
-    pub reads_below : (c : ℕ) → c < length entries → (p : Indexed) → p ≡ get_or indexed c p
-        → All (λ read. (read.0 < length names) × (read.1 < length entries)) p.reads
-    reads_below c h p is =
-        rw (get_or_read indexed c p (omega (arith, are.long)) is unindexed)
-        (λ k d l. ((are.each c h).reads_within k d l, from_sources c h k d l))
+    pub reads_below : (c : ℕ) → c < length entries → All (λ read. (read.0 < length names) × (read.1 < length entries)) (indexed_of indexed c).reads
+    reads_below c h = λ k d l. ((are.each c h).reads_within k d l, from_sources c h k d l)
 
 -- the keys of each transaction are among the history's
 pub all_keyed : (entries : List Entry) → All (λ e. All (λ x. has_name (keys (over entries)) x ≡ true) (keys_of e)) entries

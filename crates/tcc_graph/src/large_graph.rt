@@ -147,8 +147,8 @@ impl LargeGraph {
         if u == 0 {
             return (1, self.count());
         }
+        let (owner, _place) = self.indexed.place(u as usize);
         let places = self.indexed.places();
-        let owner = places[u as usize].0;
         let end = places.partition_point(|place| place.0 <= owner);
         (u + 1, end as u32)
     }

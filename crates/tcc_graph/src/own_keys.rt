@@ -1,7 +1,7 @@
 //! The keys of a history, among the names that its resolver knows. One pass marks those that its transactions write or read.
 //! Usually all are marked, and then the indices stay as they are. Otherwise the marked ones are kept, and each index becomes a
 //! rank: how many before it are marked. With n operations and k names it takes n + k steps.
-ghost use Rattle.std.specs.Prelude.{◌≡◌, ◌<◌, ◌≤◌, ℕ, Bool, true, length, map, All, IfOk};
+ghost use Rattle.std.specs.Prelude.{◌≡◌, ◌<◌, ◌≤◌, ◌++◌, ◌∷◌, [], ℕ, Bool, true, length, map, All, IfOk};
 ghost use Rattle.std.specs.List.Sorted.{IsStrictlySortedBy};
 ghost use Rattle.std.specs.Ordering.{nat_cmp};
 ghost use Rattle.std.specs.Cmp.Lexicographic.{slice_cmp};

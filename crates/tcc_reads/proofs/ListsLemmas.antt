@@ -17,6 +17,18 @@ pub transactions_places : (ps : List (ℕ × ℕ)) (ws : List (List ℕ)) (rs : 
 transactions_places [] ws rs = refl
 transactions_places (p ∷ ps) ws rs = ap (λ (l : List (ℕ × ℕ)). p ∷ l) (transactions_places ps (drop 1 ws) (drop 1 rs))
 
+pub transactions_owner : (ps : List (ℕ × ℕ)) (ws : List (List ℕ)) (rs : List (List (ℕ × ℕ))) (n : ℕ) → n < length ps
+    → (get_or ps n (0, 0)).0 ≡ (indexed_of (transactions_of ps ws rs) n).owner
+transactions_owner [] ws rs n l = absurd (omega (arith, l))
+transactions_owner (p ∷ ps) ws rs zero l = refl
+transactions_owner (p ∷ ps) ws rs (suc n) l = transactions_owner ps (drop 1 ws) (drop 1 rs) n (omega (arith, l))
+
+pub transactions_place : (ps : List (ℕ × ℕ)) (ws : List (List ℕ)) (rs : List (List (ℕ × ℕ))) (n : ℕ) → n < length ps
+    → (get_or ps n (0, 0)).1 ≡ (indexed_of (transactions_of ps ws rs) n).place
+transactions_place [] ws rs n l = absurd (omega (arith, l))
+transactions_place (p ∷ ps) ws rs zero l = refl
+transactions_place (p ∷ ps) ws rs (suc n) l = transactions_place ps (drop 1 ws) (drop 1 rs) n (omega (arith, l))
+
 pub transactions_writes : (ps : List (ℕ × ℕ)) (ws : List (List ℕ)) (rs : List (List (ℕ × ℕ))) (n : ℕ) → n < length ps
     → get_or ws n [] ≡ (indexed_of (transactions_of ps ws rs) n).writes
 transactions_writes [] ws rs n l = absurd (omega (arith, l))

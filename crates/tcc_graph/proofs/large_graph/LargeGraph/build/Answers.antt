@@ -9,34 +9,33 @@ use Rattle.tcc_graph.proofs.large_graph.LargeGraph.build.Goals as goal
 pub index_table-requires-clause-sources : goal.index_table-requires-clause-sources
 index_table-requires-clause-sources c =
     let parts = c.parts_of-sessions.result in
-    rw c.deref.ensures.value
-    (indexed_sources c.in_ok-keys.field-0.keys.items (entries_of parts.keys.items parts.transactions.items) c.in_ok-keys.field-0.indexed.items
-    c.in_ok-keys.ensures.indexed c.parts_of-sessions.ensures.transactions.sources)
+    indexed_sources c.in_ok-keys.field-0.keys.items (entries_of parts.keys.items parts.transactions) c.in_ok-keys.field-0.indexed
+    c.in_ok-keys.ensures.indexed c.parts_of-sessions.ensures.transactions.sources
 
 pub key_table-requires-clause-writes : goal.key_table-requires-clause-writes
 key_table-requires-clause-writes c =
     let parts = c.parts_of-sessions.result in
     let long : c.len.result ≡ length c.in_ok-keys.field-0.keys.items = omega (arith, c.len.ensures) in
-    rw (c.deref-2.ensures.value, long)
-    (writes_within c.in_ok-keys.field-0.keys.items (entries_of parts.keys.items parts.transactions.items) c.in_ok-keys.field-0.indexed.items
+    rw long
+    (writes_within c.in_ok-keys.field-0.keys.items (entries_of parts.keys.items parts.transactions) c.in_ok-keys.field-0.indexed
     c.in_ok-keys.ensures.indexed)
 
 pub key_table-requires-clause-reads : goal.key_table-requires-clause-reads
 key_table-requires-clause-reads c =
     let parts = c.parts_of-sessions.result in
     let long : c.len.result ≡ length c.in_ok-keys.field-0.keys.items = omega (arith, c.len.ensures) in
-    rw (c.deref-2.ensures.value, long)
-    (reads_within c.in_ok-keys.field-0.keys.items (entries_of parts.keys.items parts.transactions.items) c.in_ok-keys.field-0.indexed.items
+    rw long
+    (reads_within c.in_ok-keys.field-0.keys.items (entries_of parts.keys.items parts.transactions) c.in_ok-keys.field-0.indexed
     c.in_ok-keys.ensures.indexed)
 
 pub invariant_of-result : goal.invariant_of-result
 invariant_of-result c =
     let parts = c.parts_of-sessions.result in
     let sessions = parts.sessions.items in
-    let entries : List Entry = entries_of parts.keys.items parts.transactions.items in
+    let entries : List Entry = entries_of parts.keys.items parts.transactions in
     let list = c.parts_of-sessions.ensures.transactions in
     let names = c.in_ok-keys.field-0.keys.items in
-    let indexed : List Indexed = c.in_ok-keys.field-0.indexed.items in
+    let indexed : List Indexed = c.in_ok-keys.field-0.indexed in
     let are : AreIndexed names entries indexed = c.in_ok-keys.ensures.indexed in
     let long : c.len.result ≡ length names = omega (arith, c.len.ensures) in
     subst (λ es. IsGraph sessions es names indexed c.in_ok-key_indices.key_indices c.in_ok-rows.rows.items) (sym (names_again names entries indexed are))
@@ -51,15 +50,15 @@ invariant_of-result c =
       keyed = c.in_ok-keys.ensures.value;
       sorted = c.in_ok-keys.ensures.sorted;
       indexed = are;
-      read_indexed = rw (← are.long, ← c.deref.ensures.value) c.in_ok-key_indices.ensures;
-      rowed = rw (← long, ← are.long, ← c.deref-2.ensures.value) c.in_ok-rows.ensures;
+      read_indexed = rw (← are.long) c.in_ok-key_indices.ensures;
+      rowed = rw (← long, ← are.long) c.in_ok-rows.ensures;
     })
 
 pub returns : goal.returns
 returns c =
     let parts = c.parts_of-sessions.result in
     rw (
-      names_again c.in_ok-keys.field-0.keys.items (entries_of parts.keys.items parts.transactions.items) c.in_ok-keys.field-0.indexed.items
+      names_again c.in_ok-keys.field-0.keys.items (entries_of parts.keys.items parts.transactions) c.in_ok-keys.field-0.indexed
           c.in_ok-keys.ensures.indexed,
       c.parts_of-sessions.ensures.transactions.is,
       c.parts_of-sessions.ensures.sessions.0,

@@ -6,9 +6,9 @@ use Rattle.tcc_graph.proofs.large_graph.LargeGraph.readings_of.Goals as goal
 
 pub returns : goal.returns
 returns c =
-    let entries = entries_of c.self.inside.keys.items c.self.inside.indexed.items in
+    let entries = entries_of c.self.inside.keys.items c.self.inside.indexed in
     let names = c.self.inside.keys.items in
-    let indexed = c.self.inside.indexed.items in
+    let indexed = c.self.inside.indexed in
     let rows = c.self.inside.rows.items in
     let inv = c.self.invariant in
     let within = rw (← c.self.view_is, ← c.self.invariant.keyed) at c.requires in
