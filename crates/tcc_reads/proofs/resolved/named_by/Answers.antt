@@ -1,7 +1,7 @@
-use Rattle.std.proofs.Common.{◌≡◌, ◌∙◌, ◌∷◌, ◌++◌, [], List, length, take, ap, sym, arith}
+use Rattle.std.proofs.Common.{◌∙◌, ◌∷◌, ◌++◌, [], List, take, ap, sym, arith}
 use Rattle.std.proofs.lemmas.List.{map_more, take_all}
 use Rattle.tcc_reads.specs.History.{Entry}
-use Rattle.tcc_reads.specs.Indexed.{entries_of, entry_of, indexed_of, unindexed}
+use Rattle.tcc_reads.specs.Indexed.{entries_of, entry_of, unindexed}
 use Rattle.tcc_reads.proofs.resolved.named_by.Goals as goal
 
 pub of-requires-clause-below : goal.of-requires-clause-below

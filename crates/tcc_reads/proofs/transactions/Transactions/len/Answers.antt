@@ -1,4 +1,4 @@
-use Rattle.std.proofs.Common.{◌≡◌, length, arith}
+use Rattle.std.proofs.Common.{arith}
 use Rattle.tcc_reads.proofs.ListsLemmas.{transactions_long}
 use Rattle.tcc_reads.proofs.transactions.Transactions.len.Goals as goal
 

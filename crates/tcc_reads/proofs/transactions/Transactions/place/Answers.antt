@@ -1,4 +1,4 @@
-use Rattle.std.proofs.Common.{◌≡◌, ◌<◌, ℕ, length, ap, ◌∙◌, arith}
+use Rattle.std.proofs.Common.{◌<◌, ℕ, length, ap, ◌∙◌, arith}
 use Rattle.std.proofs.lemmas.List.{get_or_read}
 use Rattle.tcc_reads.proofs.ListsLemmas.{transactions_long, transactions_owner, transactions_place}
 use Rattle.tcc_reads.proofs.transactions.Transactions.place.Goals as goal

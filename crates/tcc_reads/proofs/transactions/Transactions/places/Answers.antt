@@ -1,4 +1,4 @@
-use Rattle.std.proofs.Common.{◌≡◌, ◌∙◌}
+use Rattle.std.proofs.Common.{◌∙◌}
 use Rattle.tcc_reads.proofs.ListsLemmas.{transactions_places}
 use Rattle.tcc_reads.proofs.transactions.Transactions.places.Goals as goal
 

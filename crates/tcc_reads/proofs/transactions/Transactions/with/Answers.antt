@@ -1,4 +1,3 @@
-use Rattle.std.proofs.Common.{◌≡◌, ◌∷◌, ◌++◌, []}
 use Rattle.tcc_reads.proofs.ListsLemmas.{transactions_pushed}
 use Rattle.tcc_reads.proofs.transactions.Transactions.with.Goals as goal
 

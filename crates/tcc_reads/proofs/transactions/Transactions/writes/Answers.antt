@@ -1,4 +1,4 @@
-use Rattle.std.proofs.Common.{◌≡◌, ◌<◌, length, ◌∙◌}
+use Rattle.std.proofs.Common.{◌<◌, length, ◌∙◌}
 use Rattle.tcc_reads.proofs.ListsLemmas.{transactions_long, transactions_writes}
 use Rattle.tcc_reads.proofs.transactions.Transactions.writes.Goals as goal
 
