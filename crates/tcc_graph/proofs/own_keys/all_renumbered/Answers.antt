@@ -1,4 +1,4 @@
-use Rattle.std.proofs.Common.{◌≡◌, ◌<◌, ◌∷◌, ◌++◌, ◌∙◌, ℕ, List, [], length, map, take, ap, sym, arith}
+use Rattle.std.proofs.Common.{◌∷◌, ◌++◌, ◌∙◌, ℕ, List, [], map, ap, sym, arith}
 use Rattle.std.proofs.lemmas.List.{map_more, take_all}
 use Rattle.tcc_reads.specs.Indexed.{Indexed, indexed_of, unindexed}
 use Rattle.tcc_graph.specs.private.Marks.{moved_by}

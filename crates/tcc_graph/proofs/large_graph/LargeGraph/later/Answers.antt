@@ -1,11 +1,11 @@
-use Rattle.std.proofs.Common.{rules, ℕ, ◌+◌, ◌<◌, ◌≤◌, ◌≡◌, true, false, List, length, map, ap, subst, sym, ◌∙◌, arith}
+use Rattle.std.proofs.Common.{rules, ℕ, ◌+◌, ◌<◌, ◌≤◌, ◌≡◌, true, false, List, length, map, ap, subst, sym, arith}
 use Rattle.std.specs.Prelude.{nat_le, ◌↔◌}
 use Rattle.std.specs.List.Sorted.{IsPartitionPoint}
 use Rattle.std.proofs.lemmas.List.{length-map}
 use Rattle.std.proofs.lemmas.List.Sorted.{IsPartitionPoint-from_clause}
 use Rattle.tcc_reads.specs.History.{History, count}
 use Rattle.tcc_graph.specs.Relations.{IsSessionPair}
-use Rattle.tcc_reads.specs.Indexed.{Indexed, indexed_of, unindexed}
+use Rattle.tcc_reads.specs.Indexed.{Indexed, indexed_of}
 use Rattle.tcc_graph.specs.private.ReadTables.{history_of}
 use Rattle.tcc_graph.proofs.IndexedLemmas.{count_is}
 use Rattle.tcc_graph.proofs.LaterLemmas.{parted, ends}
