@@ -3,7 +3,7 @@ use Rattle.std.specs.Prelude.{ℕ, List, [], ◌∷◌, drop, slice_index_or}
 use Rattle.tcc_reads.specs.Indexed.{Indexed}
 
 -- each has its session and place, and its rows of what is written and read
-abbrev pub transactions_of : List (ℕ × ℕ) → List (List ℕ) → List (List (ℕ × ℕ)) → List Indexed
+unfoldable pub transactions_of : List (ℕ × ℕ) → List (List ℕ) → List (List (ℕ × ℕ)) → List Indexed
 transactions_of [] writes reads = []
 transactions_of (place ∷ places) writes reads = record {
   owner = place.0;

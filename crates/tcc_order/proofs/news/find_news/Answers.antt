@@ -1,3 +1,4 @@
+use Rattle.std.proofs.Common.{arith}
 use Rattle.tcc_order.proofs.NewsLemmas.{news_sorted}
 use Rattle.tcc_order.proofs.news.find_news.Goals as goal
 
@@ -13,5 +14,5 @@ returns-clause-news c =
     news_sorted c.args.graph.now c.args.from c.add_along.new.table c.add_along.new.rows c.in_ok-rows.rows (omega (arith, c.in_ok-rows.ensures.same, news.long)) c.in_ok-rows.ensures.each
     news
 
-pub sorted-rows-requires : goal.sorted-rows-requires
-sorted-rows-requires c = omega (arith, c.in_ok-add_along.ensures.news.long)
+pub sorted-requires : goal.sorted-requires
+sorted-requires c = omega (arith, c.in_ok-add_along.ensures.news.long)
