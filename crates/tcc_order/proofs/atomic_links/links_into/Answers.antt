@@ -1,4 +1,4 @@
-use Rattle.std.proofs.Common.{◌≡◌, ◌<◌, ◌∙◌, ℕ, [], get_or, arith}
+use Rattle.std.proofs.Common.{◌≡◌, ◌<◌, ◌∙◌, ℕ, get_or, arith}
 use Rattle.tcc_reads.specs.History.{count}
 use Rattle.tcc_graph.specs.Tables.{row_of}
 use Rattle.tcc_order.proofs.Readings.{reader_below}

@@ -1,4 +1,4 @@
-use Rattle.std.proofs.Common.{◌≡◌, ◌<◌, [], length, arith}
+use Rattle.std.proofs.Common.{◌<◌, [], length, arith}
 use Rattle.tcc_graph.specs.Tables.{row_of}
 use Rattle.tcc_order.specs.private.ByKey.{AreAlike}
 use Rattle.tcc_order.proofs.ByKey.{like_before}

@@ -1,4 +1,4 @@
-use Rattle.std.proofs.Common.{rules, ◌≡◌, ◌<◌, ◌+◌, ◌∙◌, ◌∷◌, ◌++◌, ℕ, List, [], length, refl, sym, arith}
+use Rattle.std.proofs.Common.{rules, ◌≡◌, ◌<◌, ◌∙◌, ◌∷◌, ◌++◌, ℕ, [], length, refl, sym, arith}
 use Rattle.std.proofs.lemmas.List.{length-replicate, length_push}
 use Rattle.tcc_reads.specs.History.{count, owner}
 use Rattle.tcc_graph.specs.Relations.{IsReadsPair}

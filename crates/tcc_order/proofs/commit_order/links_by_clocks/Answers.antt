@@ -1,5 +1,5 @@
 use Rattle.tcc_reads.specs.History.{count}
-use Rattle.std.proofs.Common.{◌≡◌, ◌∙◌}
+use Rattle.std.proofs.Common.{◌∙◌}
 use Rattle.tcc_graph.specs.Levels.{causally}
 use Rattle.tcc_order.specs.private.Held.{holds}
 use Rattle.tcc_order.specs.private.CausalLinks.{Derives}

@@ -1,9 +1,8 @@
-use Rattle.std.proofs.Common.{◌≡◌, ◌≤◌, ◌+◌, ◌∙◌, ℕ, List, length, get_or, set, take, refl, arith}
+use Rattle.std.proofs.Common.{◌≡◌, ◌∙◌, ℕ, List, get_or, refl, arith}
 use Rattle.std.specs.Prelude.{Contains}
 use Rattle.std.proofs.lemmas.List.{get_or_read, take_all, length-set}
-use Rattle.tcc_reads.specs.History.{count}
 use Rattle.tcc_graph.proofs.Numberings.{below_in}
-use Rattle.tcc_clocks.specs.Parents.{HasSourcesAt, parents}
+use Rattle.tcc_clocks.specs.Parents.{parents}
 use Rattle.tcc_clocks.specs.Clocks.{AreLatestOf, IsBefore}
 use Rattle.tcc_clocks.specs.private.Rows.{IsUpTo}
 use Rattle.tcc_clocks.proofs.Along.{parents_below}

@@ -1,4 +1,4 @@
-use Rattle.std.proofs.Common.{◌≡◌, ◌<◌, ◌∷◌, ◌++◌, ◌∙◌, inl, inr, ℕ, [], length, get_or, set, refl, arith}
+use Rattle.std.proofs.Common.{◌<◌, ◌∷◌, ◌∙◌, inl, inr, ℕ, length, get_or, set, refl, arith}
 use Rattle.std.proofs.lemmas.List.{length-set}
 use Rattle.tcc_graph.specs.Relations.{IsReadsPair}
 use Rattle.tcc_graph.specs.Keys.{keys, key_at}

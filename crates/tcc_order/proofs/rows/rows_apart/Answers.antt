@@ -1,4 +1,4 @@
-use Rattle.std.proofs.Common.{rules, ◌≡◌, ◌<◌, ◌≤◌, ◌∷◌, ◌++◌, ◌∙◌, [], length, refl, sym, arith}
+use Rattle.std.proofs.Common.{rules, ◌≡◌, ◌<◌, ◌≤◌, ◌∷◌, ◌++◌, ◌∙◌, [], length, refl, arith}
 use Rattle.std.proofs.lemmas.List.{take_all, take_more}
 use Rattle.tcc_graph.specs.Tables.{row_of}
 use Rattle.tcc_order.proofs.rows.rows_apart.Goals as goal

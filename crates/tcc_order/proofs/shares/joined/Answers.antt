@@ -1,9 +1,19 @@
-use Rattle.std.proofs.Common.{rules, ◌≡◌, ◌<◌, ◌+◌, ◌*◌, ◌∙◌, length, sym, subst, arith}
+use Rattle.std.proofs.Common.{◌≡◌, ◌<◌, ◌+◌, ◌*◌, ◌∙◌, length, sym, subst, arith}
 use Rattle.tcc_clocks.specs.declared.latest.TheConstants.{WIDE}
-use Rattle.tcc_order.specs.private.CausalLinks.{AreLinksFrom}
+use Rattle.tcc_order.specs.private.CausalLinks.{AreLinksFrom, Overwrites}
 use Rattle.tcc_order.specs.private.Sweeps.{Links, start_of}
+use Rattle.tcc_order.proofs.Finding.{none_derived}
 use Rattle.tcc_order.proofs.ShareLemmas.{joined_links}
 use Rattle.tcc_order.proofs.shares.joined.Goals as goal
+
+pub loop-part-init : goal.loop-part-init
+loop-part-init c =
+    let none : start_of c.args.shares.now 0 ≡ 0 = omega arith in
+    record {
+      long = omega (arith, c.in_ok-kept.ensures.long, c.count.ensures.value);
+      derived = none_derived (Overwrites c.args.graph.now) c.in_ok-kept.kept c.in_ok-kept.ensures.none;
+      enough = λ a b over some meant. absurd (omega (arith, meant.1, none));
+    }
 
 pub loop-part-preserved : goal.loop-part-preserved
 loop-part-preserved c =
