@@ -1,9 +1,9 @@
 -- Before a block of sessions begins in an order there is no transaction of the block. So zeros are the clocks of those before
 -- it, none of them was noted, and no reading tells more.
-use Rattle.std.proofs.Common.{◌≡◌, ◌<◌, ◌≤◌, ◌+◌, ◌∙◌, inl, inr, ℕ, List, length, get_or, take, slice_index, replicate, refl, sym, ap, subst, arith}
+use Rattle.std.proofs.Common.{◌≡◌, ◌<◌, ◌≤◌, ◌+◌, ◌∙◌, inl, inr, ℕ, List, length, get_or, take, slice_index, replicate, sym, subst, arith}
 use Rattle.std.specs.List.{Contains}
 use Rattle.std.proofs.lemmas.List.{get_or_default, get_or-take, get_or-replicate, length-take-le, length-replicate}
-use Rattle.tcc_reads.specs.History.{History, count, owner}
+use Rattle.tcc_reads.specs.History.{History, count}
 use Rattle.tcc_graph.specs.Orders.{IsNumbering}
 use Rattle.tcc_graph.specs.Tables.{row_of}
 use Rattle.tcc_graph.specs.Walks.{IsReached}
