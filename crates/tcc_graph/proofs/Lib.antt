@@ -27,6 +27,7 @@ pub mod KeyTableLemmas
 pub mod KeysLemmas
 pub mod LastLemmas
 pub mod LaterLemmas
+pub mod StepLemmas
 pub mod Led
 pub mod Leveled
 pub mod Linking
