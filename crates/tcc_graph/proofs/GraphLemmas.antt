@@ -1,10 +1,9 @@
 -- What the tables of a graph return.
-use Rattle.std.proofs.Common.{ℕ, zero, suc, ◌+◌, ◌<◌, ◌≡◌, Bool, true, false, List, [], ◌∷◌, ◌++◌, length, get_or, refl, sym, ap, subst, ◌∙◌, arith, zero-add}
+use Rattle.std.proofs.Common.{ℕ, zero, suc, ◌+◌, ◌<◌, ◌≡◌, Bool, true, false, List, [], ◌∷◌, ◌++◌, length, refl, sym, ap, subst, ◌∙◌, arith, zero-add}
 use Rattle.std.specs.Prelude.{All, filter, map, zip, ◌↔◌, ◌==◌, ◌||◌}
 use Rattle.std.specs.List.{Contains, range_with_len}
 use Rattle.std.specs.List.Sorted.{IsStrictlySortedBy}
 use Rattle.std.proofs.lemmas.Bool.{lt-ltb}
-use Rattle.std.proofs.lemmas.List.{get_or_read}
 use Rattle.std.proofs.lemmas.List.Elements.{All-contains, All-map, filter_passes}
 use Rattle.std.proofs.lemmas.List.FromFn.{get_or-range_with_len, length-range_with_len}
 use Rattle.tcc_txn.proofs.Lists as lists
@@ -15,11 +14,11 @@ use Rattle.tcc_reads.specs.Sources.{name_cmp}
 use Rattle.tcc_graph.specs.Relations.{session_pair, causal_pair, has_items, reads_from, IsReadsPair, AreInOrder}
 use Rattle.tcc_graph.specs.Keys.{has_name, keys, is_key, writes, writers, readers}
 use Rattle.tcc_graph.specs.private.Grouped.{of_group, groups}
-use Rattle.tcc_reads.specs.Indexed.{Indexed}
-use Rattle.tcc_graph.specs.private.ReadTables.{over, indexed_of, values_from, HasReadsInOrder, AreIndexed, IsIndexTable}
+use Rattle.tcc_reads.specs.Indexed.{Indexed, indexed_of}
+use Rattle.tcc_graph.specs.private.ReadTables.{over, values_from, HasReadsInOrder, AreIndexed, IsIndexTable}
 use Rattle.tcc_graph.specs.KeyIndices.{IsAbsent, name_of}
 use Rattle.tcc_graph.specs.Tables.{row_of}
-use Rattle.tcc_graph.specs.private.KeyRows.{KeyRow, key_row_of, marked, writes_key, reads_key, IsKeyTable}
+use Rattle.tcc_graph.specs.private.KeyRows.{AreReaders, AreWriters, groups_of, marked, writes_key, reads_key}
 use Rattle.tcc_graph.proofs.Ascending.{groups_sorted, values_sorted, indices_sorted, filtered_sorted}
 use Rattle.tcc_graph.proofs.GroupedLemmas.{of_group-groups, zip-map, in_groups, from_groups}
 use Rattle.tcc_graph.proofs.KeysLemmas.{has_name-keys, present, absent, no_readers}
@@ -83,6 +82,14 @@ module _ (entries : List Entry) (names : List (List ℕ)) (indexed : List Indexe
       (values_within (length names) (indexed_of indexed b).reads a at.reads_within) i)
       ∙ ap (λ xs. has_name xs (name_of names k)) (sym (values_from-named names (indexed_of indexed b).reads a) ∙ ap (λ reads. values_from reads a) at.reads)
 
+  -- the keys that a transaction reads from another are in order
+  pub read_in_order : All HasReadsInOrder entries → (a b : ℕ) → b < length entries → IsStrictlySortedBy nat_cmp (values_from (indexed_of indexed b).reads a)
+  read_in_order reads a b h =
+      let at = are.each b h in
+      indices_sorted names sorted (values_from (indexed_of indexed b).reads a) (values_within (length names) (indexed_of indexed b).reads a at.reads_within)
+      (subst (IsStrictlySortedBy name_cmp) (ap (λ rs. values_from rs a) (sym at.reads) ∙ values_from-named names (indexed_of indexed b).reads a)
+      (values_sorted (entry_at (over entries) b).reads a (reads b initial h)))
+
   -- the readings of a source, by indices
   module _ (table : List (List (ℕ × ℕ))) (tables : IsIndexTable (length entries) indexed (length entries) table) (a : ℕ) (from : a < length entries)
       (row : List (ℕ × ℕ)) (is : row ≡ row_of table a) where
@@ -96,11 +103,7 @@ module _ (entries : List Entry) (names : List (List ℕ)) (indexed : List Indexe
 
     pub indices_order : All HasReadsInOrder entries → AreInOrder nat_cmp (map (λ p. p.0) row) (map (λ p. p.1) row)
     indices_order reads =
-        rw (zip-map row, whole_row) (groups_sorted nat_cmp (λ b. values_from (indexed_of indexed b).reads a) (length entries) (λ b h.
-        let at = are.each b h in
-        indices_sorted names sorted (values_from (indexed_of indexed b).reads a) (values_within (length names) (indexed_of indexed b).reads a at.reads_within)
-        (subst (IsStrictlySortedBy name_cmp) (ap (λ rs. values_from rs a) (sym at.reads) ∙ values_from-named names (indexed_of indexed b).reads a)
-        (values_sorted (entry_at (over entries) b).reads a (reads b initial h)))))
+        rw (zip-map row, whole_row) (groups_sorted nat_cmp (λ b. values_from (indexed_of indexed b).reads a) (length entries) (read_in_order reads a))
 
     pub index_readings : (c k : ℕ) → Contains (zip (map (λ p. p.0) row) (map (λ p. p.1) row)) (c, k) ↔
         ((k < length names) × IsReadsPair (over entries) a c (name_of names k))
@@ -136,39 +139,37 @@ module _ (entries : List Entry) (names : List (List ℕ)) (indexed : List Indexe
       pub from_within : All (λ key_index. key_index < length names) (of_group row b)
       from_within = rw group_row (values_within (length names) (indexed_of indexed b).reads a (are.each b to).reads_within)
 
-  -- the rows of the keys
-  module _ (rows : List KeyRow) (tables : IsKeyTable indexed (length names) (length entries) (length entries) rows) (k : ℕ) (within : k < length names)
-      (row : KeyRow) (is : row ≡ get_or rows k row) where
-    is_row : row ≡ key_row_of rows k
-    is_row = let inside : k < length rows = omega (arith, tables.long) in get_or_read rows k row inside is _
+  -- the writers of a key
+  pub writers_here : {X : Type 0} (rows : List (List (ℕ × X))) → AreWriters indexed (length names) (length entries) rows → names ≡ keys (over entries)
+      → (k : ℕ) → k < length names → groups_of rows k ≡ writers (over entries) (name_of names k)
+  writers_here rows tables keyed k within =
+      let key : is_key (over entries) (name_of names k) ≡ true =
+      sym (has_name-keys (over entries) (name_of names k)) ∙ rw (← keyed) (present names (name_of names k) k (stands_there names sorted k within)) in
+      rw key (tables.each k within
+      ∙ filter_same (writes_key indexed k) (λ b. writes (over entries) b (name_of names k)) (length entries) (λ b h. writes_same b k h within))
 
-    pub writers_here : names ≡ keys (over entries) → row.writers ≡ writers (over entries) (name_of names k)
-    writers_here keyed =
-        let key : is_key (over entries) (name_of names k) ≡ true =
-        sym (has_name-keys (over entries) (name_of names k)) ∙ rw (← keyed) (present names (name_of names k) k (stands_there names sorted k within)) in
-        rw key (ap (λ (r : KeyRow). r.writers) is_row ∙ tables.writers k within
-        ∙ filter_same (writes_key indexed k) (λ b. writes (over entries) b (name_of names k)) (length entries) (λ b h. writes_same b k h within))
-
-    whole_readers : row.readers ≡ groups (λ a. filter (reads_key indexed k a) (range_with_len 0 (length entries))) (length entries)
+  -- the readers of a key
+  module _ (rows : List (List (ℕ × ℕ))) (tables : AreReaders indexed (length names) rows) (k : ℕ) (within : k < length names) where
+    whole_readers : row_of rows k ≡ groups (λ a. filter (reads_key indexed k a) (range_with_len 0 (length entries))) (length entries)
     whole_readers =
-        ap (λ (r : KeyRow). r.readers) is_row ∙ tables.readers k within
-        ∙ ap (λ n. groups (λ a. filter (reads_key indexed k a) (range_with_len 0 n)) (length entries)) are.long
+        tables.each k within
+        ∙ ap (λ n. groups (λ a. filter (reads_key indexed k a) (range_with_len 0 n)) n) are.long
 
-    pub readers_here : (a : ℕ) → a < length entries → of_group row.readers a ≡ readers (over entries) a (name_of names k)
+    pub readers_here : (a : ℕ) → a < length entries → of_group (row_of rows k) a ≡ readers (over entries) a (name_of names k)
     readers_here a from =
         ap (λ grouped. of_group grouped a) whole_readers
         ∙ of_group-groups (λ s. filter (reads_key indexed k s) (range_with_len 0 (length entries))) (length entries) a from
         ∙ filter_same (reads_key indexed k a) (λ b. has_name (reads_from (over entries) a b) (name_of names k)) (length entries)
         (λ b h. reads_same a b k h within)
 
-    pub key_order : AreInOrder nat_cmp (map (λ p. p.0) row.readers) (map (λ p. p.1) row.readers)
+    pub key_order : AreInOrder nat_cmp (map (λ p. p.0) (row_of rows k)) (map (λ p. p.1) (row_of rows k))
     key_order =
-        rw (zip-map row.readers, whole_readers) (groups_sorted nat_cmp (λ s. filter (reads_key indexed k s) (range_with_len 0 (length entries))) (length entries)
+        rw (zip-map (row_of rows k), whole_readers) (groups_sorted nat_cmp (λ s. filter (reads_key indexed k s) (range_with_len 0 (length entries))) (length entries)
         (λ s h. filtered_sorted (reads_key indexed k s) (length entries)))
 
-    pub key_readings : (a c : ℕ) → Contains (zip (map (λ p. p.0) row.readers) (map (λ p. p.1) row.readers)) (a, c) ↔ IsReadsPair (over entries) a c
+    pub key_readings : (a c : ℕ) → Contains (zip (map (λ p. p.0) (row_of rows k)) (map (λ p. p.1) (row_of rows k))) (a, c) ↔ IsReadsPair (over entries) a c
         (name_of names k)
-    key_readings a c = rw (zip-map row.readers, whole_readers) (
+    key_readings a c = rw (zip-map (row_of rows k), whole_readers) (
       λ h.
           let w = from_groups (λ s. filter (reads_key indexed k s) (range_with_len 0 (length entries))) (length entries) a c h in
           let v = in_filter (reads_key indexed k a) (length entries) c w.1 in

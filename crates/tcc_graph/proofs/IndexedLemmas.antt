@@ -6,7 +6,7 @@ use Rattle.std.specs.List.{list_any}
 use Rattle.std.specs.List.Sorted.{IsStrictlySortedBy}
 use Rattle.std.proofs.lemmas.Bool.{cases_eq, ne_eqb, eq-eqb}
 use Rattle.std.proofs.Math.ListN as math
-use Rattle.std.proofs.lemmas.List.{get_or_default, get_or_read, get_or-map, length-map, same_lists}
+use Rattle.std.proofs.lemmas.List.{get_or_default, get_or-map, length-map, same_lists}
 use Rattle.std.proofs.lemmas.List.Elements.{All-append, All-map, All-contains, Contains-append_right}
 use Rattle.std.proofs.lemmas.List.Folds.{list_any_at}
 use Rattle.tcc_reads.specs.History.{Entry, initial, owner, place}
@@ -14,9 +14,8 @@ use Rattle.tcc_reads.specs.Sources.{name_cmp}
 use Rattle.tcc_graph.specs.Keys.{has_name, keys, keys_of}
 use Rattle.tcc_graph.specs.private.Grouped.{as_group, groups}
 use Rattle.tcc_graph.specs.KeyIndices.{name_of, StandsAt}
-use Rattle.tcc_graph.specs.Tables.{row_of}
-use Rattle.tcc_reads.specs.Indexed.{Indexed, named, entry_of, entries_of}
-use Rattle.tcc_graph.specs.private.ReadTables.{over, values_from, indexed_of, unindexed, history_of, IsIndexed, AreIndexed, IsIndexTable, HasSources}
+use Rattle.tcc_reads.specs.Indexed.{Indexed, named, entry_of, entries_of, indexed_of, unindexed}
+use Rattle.tcc_graph.specs.private.ReadTables.{over, values_from, history_of, IsIndexed, AreIndexed, IsIndexTable, HasSources}
 use Rattle.tcc_graph.proofs.NameLemmas.{bytes_eq-same, bytes_eq-other, indices_differ, contains-has_name}
 use Rattle.tcc_graph.proofs.KeysLemmas.{has_name-keys}
 
@@ -94,12 +93,11 @@ values_in_groups P values (suc m) all =
     All-append (λ p. P p.1) (groups values m) (as_group m (values m)) (values_in_groups P values m (λ b h. all b (omega arith)))
     (All-map (λ p. P p.1) (λ x. (m, x)) (values m) (all m (omega arith)))
 
--- the indices of a row of the table are below those of the reads
-pub row_within : (indexed : List Indexed) (n : ℕ) → All (λ p. All (λ read. read.0 < n) p.reads) indexed → (table : List (List (ℕ × ℕ)))
-    → IsIndexTable (length indexed) indexed (length indexed) table
-    → (a : ℕ) → a < length indexed → All (λ p. p.1 < n) (row_of table a)
-row_within indexed n within table tables a inside =
-    rw (tables.rows a inside) (values_in_groups (λ j. j < n) (λ b. values_from (indexed_of indexed b).reads a) (length indexed)
+-- the indices in the table are below those of the reads
+pub table_within : (indexed : List Indexed) (n : ℕ) → All (λ p. All (λ read. read.0 < n) p.reads) indexed → (table : List (List (ℕ × ℕ)))
+    → IsIndexTable (length indexed) indexed (length indexed) table → All (λ row. All (λ p. p.1 < n) row) table
+table_within indexed n within table tables a d h =
+    rw (get_or_default table a d [] h, tables.rows a (omega (arith, h, tables.long))) (values_in_groups (λ j. j < n) (λ b. values_from (indexed_of indexed b).reads a) (length indexed)
     (λ b h. values_within n (indexed_of indexed b).reads a (within b _ h)))
 
 -- what holds for all keys of a transaction holds for those that it reads
@@ -157,11 +155,8 @@ module _ (names : List (List ℕ)) (entries : List Entry) (indexed : List Indexe
     pub indexed_sources : All (λ p. All (λ read. read.1 < length indexed) p.reads) indexed
     indexed_sources n d h = rw (get_or_default indexed n d unindexed h, are.long) (from_sources n (omega (arith, are.long)))
 
-    pub reads_below : (c : ℕ) → c < length entries → (p : Indexed) → p ≡ get_or indexed c p
-        → All (λ read. (read.0 < length names) × (read.1 < length entries)) p.reads
-    reads_below c h p is =
-        rw (get_or_read indexed c p (omega (arith, are.long)) is unindexed)
-        (λ k d l. ((are.each c h).reads_within k d l, from_sources c h k d l))
+    pub reads_below : (c : ℕ) → c < length entries → All (λ read. (read.0 < length names) × (read.1 < length entries)) (indexed_of indexed c).reads
+    reads_below c h = λ k d l. ((are.each c h).reads_within k d l, from_sources c h k d l)
 
 -- the keys of each transaction are among the history's
 pub all_keyed : (entries : List Entry) → All (λ e. All (λ x. has_name (keys (over entries)) x ≡ true) (keys_of e)) entries

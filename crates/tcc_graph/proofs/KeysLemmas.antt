@@ -70,8 +70,8 @@ has_name-filter p (r ∷ reads) x none =
     go rest other false e = rw e rest
 
 -- nobody reads a name that is not a key
-no_reads : (h : History) (x : List ℕ) (a : ℕ) (b : ℕ) → is_key h x ≡ false → has_name (reads_from h a b) x ≡ false
-no_reads h x a b none = elim (cases_lt b (length h.entries)) [
+no_values : (h : History) (x : List ℕ) (a : ℕ) (b : ℕ) → is_key h x ≡ false → has_name (reads_from h a b) x ≡ false
+no_values h x a b none = elim (cases_lt b (length h.entries)) [
   | inl below ↦ (
       let no : has_name (keys_of (entry_at h b)) x ≡ false = list_any-at (λ e. has_name (keys_of e) x) h.entries none b initial below in
       let parts = or_parts (has_name (entry_at h b).writes x) (has_name (map (λ read. read.0) (entry_at h b).reads) x)
@@ -85,4 +85,4 @@ filter_none p [] none = refl
 filter_none p (x ∷ xs) none = rw (none x) (filter_none p xs none)
 
 pub no_readers : (h : History) (x : List ℕ) (a : ℕ) → is_key h x ≡ false → readers h a x ≡ []
-no_readers h x a none = filter_none (λ b. has_name (reads_from h a b) x) (numbers h) (λ b. no_reads h x a b none)
+no_readers h x a none = filter_none (λ b. has_name (reads_from h a b) x) (numbers h) (λ b. no_values h x a b none)

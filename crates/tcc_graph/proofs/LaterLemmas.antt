@@ -1,14 +1,15 @@
 -- Which numbers have a session pair from a transaction: those after it up to the end of its session.
-use Rattle.std.proofs.Common.{ℕ, ◌+◌, ◌<◌, ◌≤◌, ◌≡◌, ◌⊎◌, inl, inr, true, false, List, length, sym, ap, arith}
+use Rattle.std.proofs.Common.{ℕ, ◌+◌, ◌<◌, ◌≤◌, ◌≡◌, ◌⊎◌, inl, inr, true, false, List, length, map, get_or, sym, ap, arith}
 use Rattle.std.specs.Prelude.{nat_le, ◌↔◌}
 use Rattle.std.specs.List.Sorted.{IsPartitionPoint, IsPartitionedBy, IsNonDecreasingBy}
 use Rattle.std.proofs.lemmas.List.Sorted.{IsPartitionedBy-leb, IsNonDecreasingBy-from_default}
 use Rattle.std.proofs.Math.Nat.{lt_of_not-le}
 use Rattle.std.proofs.lemmas.Bool.{cases_lt, leb-true, leb-false}
+use Rattle.std.proofs.lemmas.List.{get_or-map, length-map}
 use Rattle.tcc_reads.specs.History.{History, IsBySession, count, owner, place}
 use Rattle.tcc_graph.specs.Relations.{IsSessionPair}
-use Rattle.tcc_reads.specs.Indexed.{Indexed, entries_of}
-use Rattle.tcc_graph.specs.private.ReadTables.{indexed_of, unindexed, history_of}
+use Rattle.tcc_reads.specs.Indexed.{Indexed, entries_of, indexed_of, unindexed}
+use Rattle.tcc_graph.specs.private.ReadTables.{history_of}
 use Rattle.tcc_graph.proofs.IndexedLemmas.{count_is, owner_is}
 use Rattle.tcc_graph.proofs.Pairs.{PairParts, pair_parts, lower_first, initial_pair}
 
@@ -66,8 +67,19 @@ module _ (sessions names : List (List ℕ)) (indexed : List Indexed) (ordered : 
   abbrev h : History
   h = history_of sessions names indexed
 
-  owners_rise : IsNonDecreasingBy (λ (p : Indexed). p.owner) indexed
-  owners_rise = IsNonDecreasingBy-from_default (λ (p : Indexed). p.owner) indexed unindexed (λ i j upto below. go i j below (cases_lt i j) upto)
+  abbrev places : List (ℕ × ℕ)
+  places = map {B = ℕ × ℕ} (λ p. (p.owner, p.place)) indexed
+
+  place_is : (k : ℕ) → k < length indexed → (get_or places k (0, 0)).0 ≡ (indexed_of indexed k).owner
+  place_is k inside = ap (λ (p : ℕ × ℕ). p.0) (get_or-map {Y = ℕ × ℕ} (λ p. (p.owner, p.place)) indexed k unindexed (0, 0) inside)
+
+  long_places : length places ≡ length indexed
+  long_places = length-map {B = ℕ × ℕ} indexed (λ (p : Indexed). (p.owner, p.place))
+
+  owners_rise : IsNonDecreasingBy (λ (p : ℕ × ℕ). p.0) places
+  owners_rise = IsNonDecreasingBy-from_default (λ (p : ℕ × ℕ). p.0) places (0, 0) (λ i j upto below.
+      let inside : j < length indexed = omega (arith, below, long_places) in
+      rw (place_is i (omega (arith, inside, upto)), place_is j inside) (go i j inside (cases_lt i j) upto))
     where
       go : (i j : ℕ) → j < length indexed → (i < j) ⊎ (j ≤ i) → i ≤ j → (indexed_of indexed i).owner ≤ (indexed_of indexed j).owner
       go i j below (inl less) upto =
@@ -76,23 +88,25 @@ module _ (sessions names : List (List ℕ)) (indexed : List Indexed) (ordered : 
       go i j below (inr more) upto = let same : i ≡ j = omega (arith, more, upto) in omega (arith, ap (λ n. (indexed_of indexed n).owner) same)
 
   -- what a search for the first transaction of a later session requires
-  pub parted : (mine : ℕ) → IsPartitionedBy (λ (p : Indexed). nat_le p.owner mine) indexed
-  parted mine = IsPartitionedBy-leb (λ (p : Indexed). p.owner) indexed mine owners_rise
+  pub parted : (mine : ℕ) → IsPartitionedBy (λ (p : ℕ × ℕ). nat_le p.0 mine) places
+  parted mine = IsPartitionedBy-leb (λ (p : ℕ × ℕ). p.0) places mine owners_rise
 
   -- what the result of a search for the first transaction of a later session says
   module _ (u end : ℕ) (below : u < count h) (within : end ≤ count h)
-      (point : IsPartitionPoint (λ (p : Indexed). nat_le p.owner (indexed_of indexed u).owner ≡ true)
-      (λ (p : Indexed). nat_le p.owner (indexed_of indexed u).owner ≡ false) indexed end) where
+      (point : IsPartitionPoint (λ (p : ℕ × ℕ). nat_le p.0 (indexed_of indexed u).owner ≡ true)
+      (λ (p : ℕ × ℕ). nat_le p.0 (indexed_of indexed u).owner ≡ false) places end) where
     before : (k : ℕ) → k < end → owner h k ≤ owner h u
     before k less =
+        let inside : k < length indexed = omega (arith, less, within, count_is names indexed) in
         rw (owner_is sessions names indexed k, owner_is sessions names indexed u)
-        (leb-true (indexed_of indexed k).owner (indexed_of indexed u).owner (point.0 k unindexed (omega (arith, less, within, count_is names indexed)) less))
+        (leb-true (indexed_of indexed k).owner (indexed_of indexed u).owner
+        (rw (place_is k inside) at (point.0 k (0, 0) (omega (arith, inside, long_places)) less)))
 
     after : (k : ℕ) → end ≤ k → k < count h → owner h u < owner h k
     after k more less =
         let inside : k < length indexed = omega (arith, less, count_is names indexed) in
         rw (owner_is sessions names indexed k, owner_is sessions names indexed u)
-        (leb-false (indexed_of indexed k).owner (indexed_of indexed u).owner (point.1 k unindexed more inside))
+        (leb-false (indexed_of indexed k).owner (indexed_of indexed u).owner (rw (place_is k inside) at (point.1 k (0, 0) more (omega (arith, inside, long_places)))))
 
     pub ends : 0 < u → (u < end) × ((v : ℕ) → IsSessionPair h u v ↔ ((u + 1 ≤ v) × (v < end)))
     ends some = (past h ordered u end some below within before after, later h ordered u end some below within before after)

@@ -22,11 +22,10 @@ pub mod GroupedLemmas
 pub mod GroupedRowsLemmas
 pub mod IndexedLemmas
 pub mod Kept
-pub mod KeyRowLemmas
 pub mod KeyTableLemmas
 pub mod KeysLemmas
-pub mod LastLemmas
 pub mod LaterLemmas
+pub mod StepLemmas
 pub mod Led
 pub mod Leveled
 pub mod Linking

@@ -12,12 +12,12 @@ use Rattle.std.proofs.lemmas.List.Elements.{All-append, All-contains, All-head, 
 use Rattle.std.proofs.lemmas.List.Folds.{list_any_at}
 use Rattle.std.proofs.lemmas.Map.Lookups.{btree_set_from_contains, exact_bytes}
 use Rattle.tcc_reads.specs.History.{Entry}
-use Rattle.tcc_reads.specs.Indexed.{Indexed, IsWithin, entry_of, entries_of, named}
+use Rattle.tcc_reads.specs.Indexed.{Indexed, IsWithin, entry_of, entries_of, named, indexed_of, unindexed}
 use Rattle.tcc_reads.specs.Sources.{name_cmp}
 use Rattle.tcc_reads.proofs.Ties.{names_tie}
 use Rattle.tcc_graph.specs.KeyIndices.{name_of}
 use Rattle.tcc_graph.specs.Keys.{has_name, keys, keys_of}
-use Rattle.tcc_graph.specs.private.ReadTables.{over, indexed_of, unindexed, AreIndexed, IsIndexed, MarksOnly, UsesOnly}
+use Rattle.tcc_graph.specs.private.ReadTables.{over, AreIndexed, IsIndexed, MarksOnly, UsesOnly}
 use Rattle.tcc_graph.proofs.IndexedLemmas.{all_keyed, entry_is, keys_read}
 use Rattle.tcc_graph.proofs.KeysLemmas.{has_name-keys}
 use Rattle.tcc_graph.proofs.NameLemmas.{bytes_eq-same, has_name-contains}

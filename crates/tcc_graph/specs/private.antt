@@ -1,4 +1,5 @@
 -- Definitions that no reader has to trust: only private functions and proofs use them.
+pub mod Counts
 pub mod Grouped
 pub mod GroupedRows
 pub mod ReadTables

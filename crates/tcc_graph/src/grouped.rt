@@ -1,7 +1,7 @@
 //! Values in groups that are numbered.
-ghost use Rattle.std.specs.Prelude.{◌≡◌, ◌≤◌, ◌++◌, [], ◌∷◌, length, map, zip, All, IfOk, OnOk};
+ghost use Rattle.std.specs.Prelude.{◌≡◌, length, map, zip, IfOk};
 ghost use Rattle.std.specs.List.Sorted.{IsNonDecreasing};
-ghost use Rattle.tcc_graph.specs.{private.Grouped.of_group, private.Grouped.IsSpan, Relations.has_items, private.KeyRows.is_last, private.KeyRows.is_last_pair};
+ghost use Rattle.tcc_graph.specs.{private.Grouped.of_group, private.Grouped.IsSpan, Relations.has_items};
 
 use std::alloc::Global;
 use std::marker::Model;
@@ -36,29 +36,6 @@ pub(crate) fn span(numbers: &[u32], group: u32) -> (usize, usize)
 }
 
 impl<T: Copy> Grouped<T> {
-    /// No values.
-    pub(crate) fn new(alloc: Global) -> Grouped<T>
-        ensures { result ≡ [] }
-    {
-        Grouped {
-            groups: Vec::new(alloc),
-            values: Vec::new(alloc),
-        }
-    }
-
-    /// One more value of the last group, or of a later one.
-    pub(crate) fn push(&mut self, group: u32, value: T) -> Result<(), NoMemory>
-        requires { All (λ p. p.0 ≤ group) self.old }
-        ensures { OnOk result (self.new ≡ self.old ++ (group, value) ∷ []) }
-    {
-        self.groups.push(group)?;
-        if self.values.push(value).is_err() {
-            self.groups.pop();
-            return Err(NoMemory);
-        }
-        Ok(())
-    }
-
     /// Values in these groups.
     pub(crate) fn in_groups(
         alloc: Global,
@@ -105,24 +82,5 @@ impl<T: Copy> Grouped<T> {
     {
         let (start, end) = span(&self.groups, group);
         &self.values[start..end]
-    }
-}
-
-/// Whether the number is the last one.
-pub(crate) fn is_last(numbers: &[u32], number: u32) -> bool
-    ensures { result ≡ is_last numbers.now number }
-{
-    match numbers.last() {
-        Some(last) => *last == number,
-        None => false,
-    }
-}
-
-impl Grouped<u32> {
-    /// Whether the value, in this group, is the last one.
-    pub(crate) fn is_last(&self, group: u32, value: u32) -> bool
-        ensures { result ≡ is_last_pair self.now group value }
-    {
-        is_last(&self.groups, group) && is_last(&self.values, value)
     }
 }

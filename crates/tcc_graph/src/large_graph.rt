@@ -1,5 +1,5 @@
 //! The graph of a resolved history within the large limits.
-ghost use Rattle.std.specs.Prelude.{◌≡◌, ◌≤◌, ◌<◌, ◌+◌, ◌++◌, ◌⊎◌, ◌↔◌, ℕ, List, length, map, zip, All, IfOk, IsTrue, string_bytes, MatchOption, []};
+ghost use Rattle.std.specs.Prelude.{◌≡◌, ◌≤◌, ◌<◌, ◌+◌, ◌++◌, ◌⊎◌, ◌↔◌, ℕ, List, length, map, zip, All, IfOk, IsTrue, string_bytes};
 ghost use Rattle.std.specs.List.Sorted.{IsNonDecreasing};
 ghost use Rattle.tcc_graph.specs.{private.Grouped.of_group, Readings.AreReadingsByIndex, Readings.AreReadingsOfKey, Levels.judged, Numbers.at, Numbers.label, Links.IsLink};
 ghost use Rattle.tcc_graph.specs.Relations.{IsCausalPair, IsSessionPair, session_pair, previous, reads_from, causal_pair};
@@ -8,16 +8,15 @@ ghost use Rattle.tcc_graph.specs.Keys.{IsWriter, keys, key_at, writers, readers}
 ghost use Rattle.tcc_txn.specs.declared.limits.TheConstants.{LARGE_COUNT, LARGE_SESSIONS};
 ghost use Rattle.tcc_reads.specs.History.{History, IsBySession, count, entry_at, owner};
 
-use crate::grouped_rows::GroupedRows;
-use crate::key_row::KeyRow;
-use crate::key_table::{key_index_of, key_table};
+use crate::grouped_rows::{FilledRows, GroupedRows};
+use crate::key_table::{key_index_of, key_readers, key_writers};
 use crate::own_keys::{OwnKeys, with_own_keys};
 use crate::tables::{index_table, parts_of};
 use crate::validity::{is_link, is_writer};
 use crate::{Level, Link, Step};
 use std::alloc::Global;
 use std::marker::Model;
-use tcc_reads::{HistoryParts, Indexed, LargeResolved};
+use tcc_reads::{HistoryParts, LargeResolved, Transactions};
 use tcc_txn::{Name, NoMemory};
 
 /// The session order and the reads-from pairs of a history whose reads are resolved, up to the large limits. Number 0 is the
@@ -27,9 +26,11 @@ use tcc_txn::{Name, NoMemory};
 pub struct LargeGraph {
     sessions: Vec<Name>,
     keys: Vec<Name>,
-    indexed: Vec<Indexed>,
-    key_indices: GroupedRows,
-    rows: Vec<KeyRow>,
+    indexed: Transactions,
+    key_indices: GroupedRows<u32>,
+    /// The groups of the row of a key are its writers. They have no values.
+    writers: FilledRows<()>,
+    readers: GroupedRows<u32>,
 }
 
 impl Model for LargeGraph {
@@ -39,9 +40,9 @@ impl Model for LargeGraph {
 
     ghost Value = { History };
 
-    ghost view = { λ g. history_of g.sessions.items g.keys.items g.indexed.items };
+    ghost view = { λ g. history_of g.sessions.items g.keys.items g.indexed };
 
-    ghost invariant = { λ g. IsGraph g.sessions.items (entries_of g.keys.items g.indexed.items) g.keys.items g.indexed.items g.key_indices g.rows.items };
+    ghost invariant = { λ g. IsGraph g.sessions.items (entries_of g.keys.items g.indexed) g.keys.items g.indexed g.key_indices g.writers.rows g.readers };
 }
 
 impl LargeGraph {
@@ -56,13 +57,15 @@ impl LargeGraph {
         } = parts_of(resolved);
         let OwnKeys { keys, indexed } = with_own_keys(alloc, keys, transactions)?;
         let key_indices = index_table(alloc, &indexed)?;
-        let rows = key_table(alloc, keys.len(), &indexed, &key_indices)?;
+        let writers = key_writers(alloc, keys.len(), &indexed)?;
+        let readers = key_readers(alloc, keys.len(), &key_indices)?;
         Ok(LargeGraph {
             sessions,
             keys,
             indexed,
             key_indices,
-            rows,
+            writers,
+            readers,
         })
     }
 
@@ -102,8 +105,8 @@ impl LargeGraph {
         if n == 0 {
             return None;
         }
-        let transaction = self.indexed.get(n as usize)?;
-        Some((transaction.owner(), transaction.place()))
+        let place = self.indexed.places().get(n as usize)?;
+        Some(*place)
     }
 
     /// Whether `a` is before `b` in session order: `init` before all others, and in one session the lower place first.
@@ -115,9 +118,9 @@ impl LargeGraph {
         if a == 0 || b == 0 {
             return b != 0;
         }
-        let from = &self.indexed[a as usize];
-        let to = &self.indexed[b as usize];
-        from.owner() == to.owner() && from.place() < to.place()
+        let from = self.indexed.place(a as usize);
+        let to = self.indexed.place(b as usize);
+        from.0 == to.0 && from.1 < to.1
     }
 
     /// The transaction right before another in session order: the one before it in its session, or else `init`.
@@ -147,8 +150,9 @@ impl LargeGraph {
         if u == 0 {
             return (1, self.count());
         }
-        let owner = self.indexed[u as usize].owner();
-        let end = self.indexed.partition_point(|other| other.owner() <= owner);
+        let (owner, _place) = self.indexed.place(u as usize);
+        let places = self.indexed.places();
+        let end = places.partition_point(|place| place.0 <= owner);
         (u + 1, end as u32)
     }
 
@@ -183,24 +187,12 @@ impl LargeGraph {
         &self.keys
     }
 
-    /// The row of a key; none if it is not a key of the history.
-    fn row(&self, key: &Name) -> Option<&KeyRow>
-        ensures writers { MatchOption result ([] ≡ writers self.now key.now) (λ row. row.now.writers ≡ writers self.now key.now) }
-        ensures readers { (a : ℕ) → a < count self.now → MatchOption result ([] ≡ readers self.now a key.now)
-            (λ row. of_group row.now.readers a ≡ readers self.now a key.now) }
-    {
-        match key_index_of(&self.keys, key) {
-            Some(key_index) => Some(&self.rows[key_index]),
-            None => None,
-        }
-    }
-
     /// The transactions that write the key visibly, ascending, `init` first; none if it is not a key of the history.
     pub fn writers(&self, key: &Name) -> &[u32]
         ensures { result.now ≡ writers self.now key.now }
     {
-        match self.row(key) {
-            Some(row) => row.writers(),
+        match key_index_of(&self.keys, key) {
+            Some(key_index) => self.writers.groups(key_index),
             None => &[],
         }
     }
@@ -210,8 +202,8 @@ impl LargeGraph {
         requires { a < count self.now }
         ensures { result.now ≡ readers self.now a key.now }
     {
-        match self.row(key) {
-            Some(row) => row.readers(a),
+        match key_index_of(&self.keys, key) {
+            Some(key_index) => self.readers.get(key_index, a),
             None => &[],
         }
     }
@@ -236,7 +228,7 @@ impl LargeGraph {
         requires { key_index < length (keys self.now) }
         ensures { result.now ≡ writers self.now (key_at self.now key_index) }
     {
-        self.rows[key_index as usize].writers()
+        self.writers.groups(key_index as usize)
     }
 
     /// Who reads the key at an index: the sources by ascending number, and beside each a reader of the key from it. For one
@@ -245,8 +237,8 @@ impl LargeGraph {
         requires { key_index < length (keys self.now) }
         ensures { AreReadingsOfKey self.now key_index result.0.now result.1.now }
     {
-        let readers = self.rows[key_index as usize].all_readers();
-        (readers.groups(), readers.values())
+        let row = key_index as usize;
+        (self.readers.groups(row), self.readers.values(row))
     }
 
     /// Who reads from `a`, and beside each the index of a key that it reads there.
@@ -286,7 +278,7 @@ impl LargeGraph {
         ensures value { map (λ read. (key_at self.now read.0, read.1)) result.now ≡ (entry_at self.now c).reads }
         ensures within { All (λ read. (read.0 < length (keys self.now)) × (read.1 < count self.now)) result.now }
     {
-        self.indexed[c as usize].reads()
+        self.indexed.reads(c as usize)
     }
 
     /// The indices of the keys that a transaction writes visibly, ascending; none for `init`, which writes every key.
@@ -295,7 +287,7 @@ impl LargeGraph {
         ensures value { map (key_at self.now) result.now ≡ (entry_at self.now b).writes }
         ensures within { All (λ key_index. key_index < length (keys self.now)) result.now }
     {
-        self.indexed[b as usize].writes()
+        self.indexed.writes(b as usize)
     }
 
     /// `init` for number 0, else the name of the session, a slash and the place.
@@ -306,9 +298,8 @@ impl LargeGraph {
         if n == 0 {
             return Ok(format!(in alloc; "init")?);
         }
-        let transaction = &self.indexed[n as usize];
-        let session = self.sessions[transaction.owner() as usize];
-        let place = transaction.place();
+        let (owner, place) = self.indexed.place(n as usize);
+        let session = self.sessions[owner as usize];
         Ok(format!(in alloc; "{session}/{place}")?)
     }
 }

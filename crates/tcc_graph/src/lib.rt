@@ -2,10 +2,10 @@
 //! operations of its transactions.
 #![tactic(auto)]
 
+mod counts;
 mod graph;
 mod grouped;
 mod grouped_rows;
-mod key_row;
 mod key_table;
 mod labels;
 mod large_graph;

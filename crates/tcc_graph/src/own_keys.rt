@@ -1,16 +1,16 @@
 //! The keys of a history, among the names that its resolver knows. One pass marks those that its transactions write or read.
 //! Usually all are marked, and then the indices stay as they are. Otherwise the marked ones are kept, and each index becomes a
 //! rank: how many before it are marked. With n operations and k names it takes n + k steps.
-ghost use Rattle.std.specs.Prelude.{◌≡◌, ◌<◌, ◌≤◌, ℕ, Bool, true, length, map, All, IfOk};
+ghost use Rattle.std.specs.Prelude.{◌≡◌, ◌<◌, ◌≤◌, ◌++◌, ◌∷◌, [], ℕ, Bool, true, length, map, All, IfOk};
 ghost use Rattle.std.specs.List.Sorted.{IsStrictlySortedBy};
 ghost use Rattle.std.specs.Ordering.{nat_cmp};
 ghost use Rattle.std.specs.Cmp.Lexicographic.{slice_cmp};
-ghost use Rattle.tcc_reads.specs.Indexed.{IsWithin, entries_of};
+ghost use Rattle.tcc_reads.specs.Indexed.{IsWithin, entries_of, indexed_of};
 ghost use Rattle.tcc_graph.specs.private.Marks.{is_marked, kept_of, moved_by, rank_at, ranks_from};
 ghost use Rattle.tcc_graph.specs.{Keys.keys, private.ReadTables.AreIndexed, private.ReadTables.MarksOnly, private.ReadTables.UsesOnly, private.ReadTables.over};
 
 use std::alloc::Global;
-use tcc_reads::Indexed;
+use tcc_reads::Transactions;
 use tcc_txn::{Name, NoMemory};
 
 /// Marks the keys at these indices.
@@ -40,20 +40,20 @@ fn mark_read(marks: &mut [bool], reads: &[(u32, u32)])
 }
 
 /// Marks the keys that the transactions write or read.
-fn mark_all(marks: &mut [bool], transactions: &[Indexed])
+fn mark_all(marks: &mut [bool], transactions: &Transactions)
     requires { All (IsWithin (length marks.old)) transactions.now }
     ensures long { length marks.new ≡ length marks.old }
     ensures only { (passes : ℕ → Bool) → All (UsesOnly passes) transactions.now → MarksOnly passes marks.old → MarksOnly passes marks.new }
     ensures all { All (UsesOnly (is_marked marks.new)) transactions.now }
 {
-    for transaction in transactions {
-        mark_written(marks, transaction.writes());
-        mark_read(marks, transaction.reads());
+    for number in 0..transactions.len() {
+        mark_written(marks, transactions.writes(number));
+        mark_read(marks, transactions.reads(number));
     }
 }
 
 /// The marks of this many keys, by what the transactions write or read.
-fn marks_of(alloc: Global, count: usize, transactions: &[Indexed]) -> Result<Vec<bool>, NoMemory>
+fn marks_of(alloc: Global, count: usize, transactions: &Transactions) -> Result<Vec<bool>, NoMemory>
     requires { All (IsWithin count) transactions.now }
     ensures long { IfOk result (λ marks. length marks.items ≡ count) }
     ensures only { IfOk result (λ marks. (passes : ℕ → Bool) → All (UsesOnly passes) transactions.now → MarksOnly passes marks.items) }
@@ -129,29 +129,37 @@ fn reads_by_rank(
     Ok(found)
 }
 
-/// The transaction by the ranks at its indices.
-fn renumbered(alloc: Global, ranks: &[u32], transaction: &Indexed) -> Result<Indexed, NoMemory>
-    requires { IsWithin (length ranks.now) transaction.now }
-    ensures { IfOk result (λ moved. moved ≡ moved_by ranks.now transaction.now) }
+/// These, and the transaction of a number by the ranks at its indices.
+fn with_renumbered(
+    alloc: Global,
+    moved: Transactions,
+    ranks: &[u32],
+    transactions: &Transactions,
+    number: usize,
+) -> Result<Transactions, NoMemory>
+    requires below { number < length transactions.now }
+    requires within { IsWithin (length ranks.now) (indexed_of transactions.now number) }
+    ensures { IfOk result (λ more. more ≡ moved ++ moved_by ranks.now (indexed_of transactions.now number) ∷ []) }
 {
-    let writes = ranks_at(alloc, ranks, transaction.writes())?;
-    let reads = reads_by_rank(alloc, ranks, transaction.reads())?;
-    let (owner, place) = (transaction.owner(), transaction.place());
-    Ok(Indexed::new(owner, place, writes, reads))
+    let place = transactions.place(number);
+    let writes = ranks_at(alloc, ranks, transactions.writes(number))?;
+    let reads = reads_by_rank(alloc, ranks, transactions.reads(number))?;
+    let more = moved.with(place, &writes, &reads)?;
+    Ok(more)
 }
 
 /// The transactions by the ranks at their indices.
 fn all_renumbered(
     alloc: Global,
     ranks: &[u32],
-    transactions: &[Indexed],
-) -> Result<Vec<Indexed>, NoMemory>
+    transactions: &Transactions,
+) -> Result<Transactions, NoMemory>
     requires { All (IsWithin (length ranks.now)) transactions.now }
-    ensures { IfOk result (λ moved. moved.items ≡ map (moved_by ranks.now) transactions.now) }
+    ensures { IfOk result (λ moved. moved ≡ map (moved_by ranks.now) transactions.now) }
 {
-    let mut moved = Vec::with_capacity(alloc, transactions.len())?;
-    for transaction in transactions {
-        moved.push(renumbered(alloc, ranks, transaction)?)?;
+    let mut moved = Transactions::new(alloc);
+    for number in 0..transactions.len() {
+        moved = with_renumbered(alloc, moved, ranks, transactions, number)?;
     }
     Ok(moved)
 }
@@ -160,7 +168,7 @@ fn all_renumbered(
 #[derive(Drop)]
 pub(crate) struct OwnKeys {
     pub keys: Vec<Name>,
-    pub indexed: Vec<Indexed>,
+    pub indexed: Transactions,
 }
 
 /// The keys that the transactions write and read, in byte order, each once, and the transactions by their indices. The given
@@ -168,14 +176,14 @@ pub(crate) struct OwnKeys {
 pub(crate) fn with_own_keys(
     alloc: Global,
     names: Vec<Name>,
-    transactions: Vec<Indexed>,
+    transactions: Transactions,
 ) -> Result<OwnKeys, NoMemory>
-    requires within { All (IsWithin (length names.items)) transactions.items }
+    requires within { All (IsWithin (length names.items)) transactions }
     requires sorted { IsStrictlySortedBy (slice_cmp nat_cmp) names.items }
     requires few { length names.items ≤ u32.MAX }
-    ensures value { IfOk result (λ own. own.keys.items ≡ keys (over (entries_of names.items transactions.items))) }
+    ensures value { IfOk result (λ own. own.keys.items ≡ keys (over (entries_of names.items transactions))) }
     ensures sorted { IfOk result (λ own. IsStrictlySortedBy (slice_cmp nat_cmp) own.keys.items) }
-    ensures indexed { IfOk result (λ own. AreIndexed own.keys.items (entries_of names.items transactions.items) own.indexed.items) }
+    ensures indexed { IfOk result (λ own. AreIndexed own.keys.items (entries_of names.items transactions) own.indexed) }
 {
     let marks = marks_of(alloc, names.len(), &transactions)?;
     if all_marked(&marks) {

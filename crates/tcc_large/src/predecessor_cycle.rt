@@ -105,7 +105,7 @@ impl StuckOrder<'_> {
         if let Some(parent) = first_left(&parents, &self.stuck.placed) {
             return Ok(parent);
         }
-        let kept = self.stuck.kept[number as usize].as_slice();
+        let kept = self.stuck.kept.row(number as usize);
         let Some(before) = first_left(kept, &self.stuck.placed) else {
             unreachable!()
         };

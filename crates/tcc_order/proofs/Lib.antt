@@ -10,7 +10,6 @@ pub mod ChainLemmas
 pub mod Fronts
 pub mod Links
 pub mod EmptyRows
-pub mod FlatLemmas
 pub mod LastLemmas
 mod Worked
 mod WorkedClocks

@@ -13,7 +13,6 @@ use Rattle.std.proofs.lemmas.List.Elements.{Contains-append_left, Contains-appen
 use Rattle.std.proofs.lemmas.List.Sorted.{Contains-permutation, IsPermutation-sym, length_permutation}
 use Rattle.tcc_graph.specs.Tables.{row_of}
 use Rattle.tcc_bits.specs.Bits.{is_marked}
-use Rattle.tcc_bits.proofs.Lists.{nothing_in}
 use Rattle.tcc_reads.specs.History.{History, count}
 use Rattle.tcc_clocks.specs.Parents.{ArePrevious}
 use Rattle.tcc_order.specs.private.Held.{holds, IsFreeBy, AreRoots, onward}
@@ -235,21 +234,20 @@ module _ (precedes : ℕ → ℕ → Bool) (n : ℕ) (ps : List ℕ) (are : AreP
 
 pub queued_after : (precedes : ℕ → ℕ → Bool) (n : ℕ) (ps : List ℕ) (are : AreParentsBy precedes n ps) (placed ready woken marks : List ℕ) (waiting : List (List ℕ))
     (next : ℕ) → AreQueued precedes ps placed (IsNot next) ready waiting → IsFreeBy precedes n placed next
-    → ((b : ℕ) → is_marked marks b ≡ (is_marked placed b || (b == next)))
-    → ((y : ℕ) → Contains woken y ↔ ((Contains [] y ⊎ Contains (row_of waiting next) y) ⊎ (y ≡ onward ps next)))
+    → ((b : ℕ) → is_marked marks b ≡ (is_marked placed b || (b == next))) → woken ≡ row_of waiting next ++ onward ps next ∷ []
     → AreQueued precedes ps marks IsAny (woken ++ ready) waiting
 queued_after precedes n ps are placed ready woken marks waiting next is free now wake =
     queued_next precedes n ps are placed ready (woken ++ ready) marks waiting next is free now (λ y w. put y (Contains-append_cases woken ready y w))
-    (λ y w. Contains-append_right woken ready y w) (λ y w. Contains-append_left woken ready y ((wake y).1 (inl (inr w))))
-    (Contains-append_left woken ready (onward ps next) ((wake (onward ps next)).1 (inr refl)))
+    (λ y w. Contains-append_right woken ready y w)
+    (λ y w. Contains-append_left woken ready y (rw wake (Contains-append_left (row_of waiting next) (onward ps next ∷ []) y w)))
+    (Contains-append_left woken ready (onward ps next) (rw wake (Contains-push (row_of waiting next) (onward ps next))))
   where
-    from : (y : ℕ) → (Contains [] y ⊎ Contains (row_of waiting next) y) ⊎ (y ≡ onward ps next) → (Contains ready y ⊎ Contains (row_of waiting next) y) ⊎ (y ≡ onward ps next)
-    from y (inl (inl none)) = absurd (nothing_in y none)
-    from y (inl (inr row)) = inl (inr row)
-    from y (inr at) = inr at
+    from : (y : ℕ) → Contains (row_of waiting next) y ⊎ (onward ps next ≡ y) → (Contains ready y ⊎ Contains (row_of waiting next) y) ⊎ (y ≡ onward ps next)
+    from y (inl row) = inl (inr row)
+    from y (inr at) = inr (sym at)
 
     put : (y : ℕ) → Contains woken y ⊎ Contains ready y → (Contains ready y ⊎ Contains (row_of waiting next) y) ⊎ (y ≡ onward ps next)
-    put y (inl w) = from y ((wake y).0 w)
+    put y (inl w) = from y (Contains-push_cases (row_of waiting next) (onward ps next) y (rw wake at w))
     put y (inr w) = inl (inl w)
 
 -- all that is ready stays sure after more are placed, and when fewer are ready
@@ -378,19 +376,6 @@ queued_ready precedes ps placed rest ready new waiting x is put =
     from : (y : ℕ) → Contains rest y ⊎ Contains new y → Contains ((rest ++ x ∷ []) ++ ready) y
     from y (inl woken) = other_woken rest ready x y (Contains-append_left rest ready y woken)
     from y (inr is_new) = by y ((put y).0 is_new)
-
--- what waited, and one more
-pub woken_more : (old mid row : List ℕ) (x y : ℕ) → (Contains mid y ↔ (Contains old y ⊎ Contains row y))
-    → Contains (mid ++ x ∷ []) y ↔ ((Contains old y ⊎ Contains row y) ⊎ (y ≡ x))
-woken_more old mid row x y both = (λ there. to (Contains-push_cases mid x y there), back)
-  where
-    to : Contains mid y ⊎ (x ≡ y) → (Contains old y ⊎ Contains row y) ⊎ (y ≡ x)
-    to (inl was) = inl (both.0 was)
-    to (inr at) = inr (sym at)
-
-    back : (Contains old y ⊎ Contains row y) ⊎ (y ≡ x) → Contains (mid ++ x ∷ []) y
-    back (inl was) = Contains-append_left mid (x ∷ []) y (both.1 was)
-    back (inr at) = rw at (Contains-push mid x)
 
 -- ---- by the kept links
 -- what can come next is ready

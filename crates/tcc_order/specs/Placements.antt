@@ -35,7 +35,7 @@ pub record IsStuck (j : Judged) (kept : List (List ℕ)) (placed : List ℕ) : T
 
 abbrev pub IsPlacement : Judged → Placement → Type 0
 IsPlacement j (placement.Order order) = IsFirstOrder j order.items
-IsPlacement j (placement.Stuck stuck) = IsStuck j stuck.kept.items stuck.placed.items
+IsPlacement j (placement.Stuck stuck) = IsStuck j stuck.kept stuck.placed.items
 
 -- causal pairs alone leave some transactions over, and right before each of them there is one that is left over
 pub record ArePairsStuck (h : History) (placed : List ℕ) : Type 0 where

@@ -6,10 +6,10 @@ pub mod Precedences
 pub mod Placed
 pub mod Queued
 pub mod Chains
-pub mod Flat
 pub mod CausalLinks
 pub mod Sweeps
 pub mod ByKey
 pub mod News
+pub mod Blocks
 pub mod Found
 pub mod AtomicLinks

@@ -2,7 +2,7 @@
 //! writers that the reader reads from. A number is kept once by a sparse set (Briggs and Torczon): the index at which it was
 //! added last shows at once whether it is there. So each source of a reader is visited once, however many keys are read from
 //! it. For R reads, each by a transaction with S sources, among W writers of a key that takes O(R S log W).
-ghost use Rattle.std.specs.Prelude.{◌≡◌, ◌≢◌, ◌<◌, ◌≤◌, ◌-◌, ◌+◌, ◌⊎◌, ◌↔◌, ◌∷◌, [], ℕ, true, length, slice_index, All, Contains, IfOk, OnOk, IsTrue};
+ghost use Rattle.std.specs.Prelude.{◌≡◌, ◌<◌, ◌-◌, ◌⊎◌, ◌↔◌, ◌∷◌, [], ℕ, true, length, slice_index, All, Contains, IfOk, OnOk, IsTrue};
 ghost use Rattle.std.specs.List.Sorted.{IsNonDecreasing};
 ghost use Rattle.tcc_reads.specs.History.{IsBySession, count};
 ghost use Rattle.tcc_graph.specs.Keys.{keys, key_at, writers};
@@ -12,11 +12,11 @@ ghost use Rattle.tcc_order.specs.private.CausalLinks.{IsLifted, AreLinks, AreOrd
 ghost use Rattle.tcc_order.specs.private.AtomicLinks.{IsOther, IsReader, HaveParents, KeepsRead, KeepsInto};
 
 use crate::causal_links::{before_in_session, last_up_to, lift_session};
-use crate::flat_rows::FlatRows;
-use std::alloc::{AllocError, Global};
+use std::alloc::Global;
 use tcc_bits::Row;
 use tcc_clocks::{find_parents, owners};
 use tcc_graph::LargeGraph;
+use tcc_reads::FlatRows;
 use tcc_txn::NoMemory;
 
 /// The last writer other than `a` before `c` in its session, or 0 if there is none.
@@ -193,7 +193,7 @@ fn links_into(
     let mut kept = Row::new(Vec::new(alloc));
     let (readers, key_indices) = graph.readings_at(a);
     for (index, reader) in readers.iter().enumerate() {
-        let before = rows.row(*reader);
+        let before = rows.row(*reader as usize);
         keep_read(
             &mut kept,
             places,

@@ -3,7 +3,7 @@
 //! has too is kept there alone. If the readers of both are alike, the later one isn't examined. For N transactions of S
 //! sessions, R reads, of which P pairs of a source and a key have such readings, and W writers of a key that takes O(S (N + R
 //! + P log W)). A block of sessions is passed over if none of them writes a key that is read from another transaction.
-ghost use Rattle.std.specs.Prelude.{◌≡◌, ◌≢◌, ◌<◌, ◌≤◌, ◌+◌, ◌-◌, ◌*◌, ◌⊎◌, ◌↔◌, ℕ, length, slice_index, slice_index_or, All, Contains, IfOk, OnOk};
+ghost use Rattle.std.specs.Prelude.{◌≡◌, ◌≢◌, ◌<◌, ◌≤◌, ◌+◌, ◌-◌, ◌*◌, ◌⊎◌, ℕ, length, slice_index, slice_index_or, All, IfOk, OnOk};
 ghost use Rattle.tcc_reads.specs.History.{IsBySession, count, owner};
 ghost use Rattle.tcc_graph.specs.{Relations.IsReadsPair, Levels.causally, Tables.row_of, Orders.IsNumbering};
 ghost use Rattle.tcc_clocks.specs.{Parents.ArePrevious, Spans.AreBounds, declared.latest.TheConstants.WIDE};
@@ -15,15 +15,13 @@ ghost use Rattle.tcc_order.specs.private.ByKey.{past_of, IsTop, AreAlike, IsLike
 ghost use Rattle.std.specs.List.Sorted.{IsNonDecreasing, IsPartitionPoint};
 ghost use Rattle.std.specs.Prelude.{nat_le, true, false, ◌∷◌, []};
 
-use crate::flat_rows::FlatRows;
 use crate::news::{find_news, no_writers};
 use crate::rows::refill;
+use crate::sweep::Sweep;
 use std::alloc::Global;
-use tcc_clocks::{
-    Clock, SharedRows, Steps, WIDE, between, block_bounds, needed_blocks, owners, raise_each,
-    span_of, steps_along,
-};
+use tcc_clocks::{Clock, SharedRows, WIDE, between, block_bounds, raise_each, span_of};
 use tcc_graph::LargeGraph;
+use tcc_reads::FlatRows;
 use tcc_txn::NoMemory;
 
 /// Up to this many writers of a key are visited one by one.
@@ -295,8 +293,8 @@ fn is_like_before(
     if before == 0 {
         return false;
     }
-    let from_a = readings.row(a);
-    let from_before = readings.row(before);
+    let from_a = readings.row(a as usize);
+    let from_before = readings.row(before as usize);
     are_alike(table, from_a, from_before)
 }
 
@@ -308,7 +306,7 @@ fn has_more(owners: &[u32], table: &SharedRows, readings: &FlatRows<(u32, u32)>,
     requires readers { All (λ row. All (λ reading. reading.0 < length table.now) row) readings.now }
     ensures { result ≡ false → (row_of readings.now a ≡ []) ⊎ IsLikeBefore owners.now table.now readings.now a }
 {
-    if readings.row(a).is_empty() {
+    if readings.row(a as usize).is_empty() {
         return false;
     }
     !is_like_before(owners, table, readings, a)
@@ -360,32 +358,18 @@ fn keep_block(
     let bounds = block_bounds(owners, from);
     for a in 0..graph.count() {
         begin_session(&mut run, owners, a);
-        let before = kept.row(a);
+        let before = kept.row(a as usize);
         if !has_more(owners, table, readings, a) {
             more.push(before)?;
             continue;
         }
-        let from_a = readings.row(a);
+        let from_a = readings.row(a as usize);
         needed(&mut need, graph, owners, from, bounds, table, from_a, a);
         refill(&mut row, before)?;
         keep(&mut row, &need, table.get(a), &mut run)?;
         more.push(&row)?;
     }
     Ok(more)
-}
-
-/// What the search for the links from each block of sessions needs.
-#[derive(Clone, Copy)]
-pub(crate) struct Sweep<'a> {
-    pub(crate) graph: &'a LargeGraph,
-    /// The session of each transaction.
-    pub(crate) owners: &'a [u32],
-    /// An order in which causal pairs lead onward.
-    pub(crate) order: &'a [u32],
-    /// What is right before each transaction of the order.
-    pub(crate) steps: &'a Steps,
-    /// Which blocks may have such links.
-    pub(crate) needed: &'a [bool],
 }
 
 /// Whether a block may have such links.
@@ -415,17 +399,12 @@ pub(crate) fn links_from(
     let mut last = no_writers(alloc, graph)?;
     let mut heads = vec![in alloc; 0; last.len()]?;
     for block in first..end.min(blocks) {
-        if !is_needed(sweep.needed, block) {
+        if !is_needed(&sweep.needed, block) {
             continue;
         }
         let from = (block * WIDE) as u32;
-        let owners = sweep.owners;
-        let order = sweep.order;
-        let steps = sweep.steps;
-        let readings = find_news(
-            alloc, &mut last, &mut heads, owners, from, graph, &mut table, order, steps,
-        )?;
-        kept = keep_block(alloc, &kept, graph, owners, from, &table, &readings)?;
+        let readings = find_news(alloc, &mut last, &mut heads, sweep, from, &mut table)?;
+        kept = keep_block(alloc, &kept, graph, &sweep.owners, from, &table, &readings)?;
     }
     Ok(kept)
 }
@@ -442,15 +421,6 @@ pub(crate) fn causal_links(
     requires onward { LeadsOnward graph.now order.now }
     ensures { IfOk result (AreLinks (causally graph.now)) }
 {
-    let owners = owners(alloc, graph)?;
-    let steps = steps_along(alloc, graph, parents, order)?;
-    let needed = needed_blocks(alloc, graph, &owners)?;
-    let sweep = Sweep {
-        graph,
-        owners: &owners,
-        order,
-        steps: &steps,
-        needed: &needed,
-    };
+    let sweep = Sweep::new(alloc, graph, parents, order)?;
     links_from(alloc, &sweep, 0, graph.sessions().len().div_ceil(WIDE))
 }

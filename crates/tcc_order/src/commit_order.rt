@@ -10,16 +10,15 @@ ghost use Rattle.tcc_order.specs.{Placements.IsPlacement, Placements.IsPairPlace
 
 use crate::atomic_links::atomic_links;
 use crate::causal_links::causal_links;
-use crate::flat_rows::FlatRows;
 use crate::kahn::{Placed, first_placing};
 use crate::placement::{PairPlacement, Placement, Stuck};
-use crate::rows::rows_apart;
 use crate::shares::causal_links_by;
 use std::alloc::Global;
 use std::thread::Threads;
 use tcc_base::Workers;
 use tcc_clocks::previous_of_each;
 use tcc_graph::{LargeGraph, Level};
+use tcc_reads::FlatRows;
 use tcc_txn::NoMemory;
 
 /// The links at a level that are kept, or where an order stops because causal pairs alone make a cycle.
@@ -38,10 +37,7 @@ fn links_by_clocks(alloc: Global, graph: &LargeGraph, parents: &[u32]) -> Result
     let none = FlatRows::empty(alloc, graph.count())?;
     match first_placing(alloc, graph, parents, &none)? {
         Placed::Order(order) => Ok(Links::Kept(causal_links(alloc, graph, parents, &order)?)),
-        Placed::Stuck(placed) => {
-            let kept = rows_apart(alloc, &none, graph.count())?;
-            Ok(Links::Circle(Stuck { kept, placed }))
-        }
+        Placed::Stuck(placed) => Ok(Links::Circle(Stuck { kept: none, placed })),
     }
 }
 
@@ -80,10 +76,7 @@ fn links_by_workers(
             let kept = causal_links_by(rt, alloc, graph, parents, &order, workers)?;
             Ok(Links::Kept(kept))
         }
-        Placed::Stuck(placed) => {
-            let kept = rows_apart(alloc, &none, graph.count())?;
-            Ok(Links::Circle(Stuck { kept, placed }))
-        }
+        Placed::Stuck(placed) => Ok(Links::Circle(Stuck { kept: none, placed })),
     }
 }
 
@@ -125,10 +118,7 @@ fn placed_with(
     };
     match first_placing(alloc, graph, parents, &kept)? {
         Placed::Order(order) => Ok(Placement::Order(order)),
-        Placed::Stuck(placed) => {
-            let kept = rows_apart(alloc, &kept, graph.count())?;
-            Ok(Placement::Stuck(Stuck { kept, placed }))
-        }
+        Placed::Stuck(placed) => Ok(Placement::Stuck(Stuck { kept, placed })),
     }
 }
 

@@ -3,7 +3,7 @@
 //! be examined, or waits for one that holds it back. A waiting one is examined again once that one was placed. It then goes on
 //! after it, so that each pair and link is examined twice at most. With N transactions and E pairs and links that takes O(E +
 //! N log N).
-ghost use Rattle.std.specs.Prelude.{◌≡◌, ◌<◌, ◌≤◌, ◌+◌, ◌⊎◌, ◌↔◌, ◌++◌, [], ℕ, true, false, length, slice_index, slice_index_or, Contains, IfOk, IfNone, IfSome, OnOk, MatchOption};
+ghost use Rattle.std.specs.Prelude.{◌≡◌, ◌<◌, ◌≤◌, ◌+◌, ◌⊎◌, ◌∷◌, ◌++◌, [], ℕ, true, false, length, slice_index, slice_index_or, Contains, IfOk, IfNone, IfSome, OnOk, MatchOption};
 ghost use Rattle.tcc_txn.specs.declared.limits.TheConstants.{LARGE_COUNT};
 ghost use Rattle.tcc_reads.specs.History.{count};
 ghost use Rattle.tcc_graph.specs.Tables.{row_of};
@@ -14,12 +14,12 @@ ghost use Rattle.tcc_order.specs.private.Precedences.{IsKnown, precedes};
 ghost use Rattle.tcc_order.specs.private.Queued.{AreQueued, AreSure, IsAny};
 ghost use Rattle.tcc_clocks.specs.Parents.{ArePrevious, sources};
 
-use crate::flat_rows::FlatRows;
+use crate::chains::Chains;
 use crate::ready::Ready;
-use crate::waiting::Waiting;
 use std::alloc::{AllocError, Global};
 use tcc_bits::{is_marked, mark, words_for};
 use tcc_graph::LargeGraph;
+use tcc_reads::FlatRows;
 use tcc_txn::NoMemory;
 
 /// The order of all transactions; or, if none can be placed next, marks of those that were placed.
@@ -35,7 +35,7 @@ pub(crate) enum Placed {
 struct Queue {
     woken: Vec<u32>,
     ready: Ready,
-    waiting: Waiting,
+    waiting: Chains<u32>,
     seen: Vec<u32>,
 }
 
@@ -106,7 +106,7 @@ impl Precedence<'_> {
         if let Some(index) = missing_source(reads, placed, seen) {
             return Some((reads[index].1, index));
         }
-        let row = self.kept.row(x);
+        let row = self.kept.row(x as usize);
         let index = missing_of(row, placed, seen.saturating_sub(reads.len()))?;
         Some((row[index], reads.len().saturating_add(index)))
     }
@@ -202,14 +202,18 @@ fn roots(alloc: Global, parents: &[u32]) -> Result<Vec<u32>, AllocError>
 }
 
 /// Wakes what waits for a transaction, and the one after it.
-fn wake(woken: &mut Vec<u32>, waiting: &Waiting, parents: &[u32], x: u32) -> Result<(), AllocError>
+fn wake(
+    woken: &mut Vec<u32>,
+    waiting: &Chains<u32>,
+    parents: &[u32],
+    x: u32,
+) -> Result<(), AllocError>
     requires few { length parents.now ≤ LARGE_COUNT }
     requires inside { x < length parents.now }
     requires long { length waiting.now ≡ length parents.now }
-    ensures { OnOk result ((y : ℕ) → Contains woken.new.items y
-        ↔ ((Contains woken.old.items y ⊎ Contains (row_of waiting.now x) y) ⊎ (y ≡ onward parents.now x))) }
+    ensures { OnOk result (woken.new.items ≡ (woken.old.items ++ row_of waiting.now x) ++ onward parents.now x ∷ []) }
 {
-    waiting.wake(woken, x)?;
+    waiting.append_to(woken, x)?;
     woken.push(onward(parents, x))?;
     Ok(())
 }
@@ -224,7 +228,7 @@ fn first_queue(alloc: Global, parents: &[u32], count: u32) -> Result<Queue, NoMe
     ensures seen { IfOk result (λ queue. length queue.seen.items ≡ count) }
 {
     let woken = roots(alloc, parents)?;
-    let waiting = Waiting::new(alloc, count)?;
+    let waiting = Chains::new(alloc, count)?;
     let seen = vec![in alloc; 0; count as usize]?;
     Ok(Queue {
         woken,

@@ -5,9 +5,9 @@
 mod atomic_links;
 mod block_start;
 mod causal_links;
+mod chains;
 mod clocks_along;
 mod commit_order;
-mod flat_rows;
 mod kahn;
 pub mod laws;
 mod news;
@@ -16,7 +16,7 @@ mod reading_rows;
 mod ready;
 mod rows;
 mod shares;
-mod waiting;
+mod sweep;
 
 pub use clocks_along::clocks;
 pub use commit_order::{order, order_of_pairs, place, place_by, place_pairs};

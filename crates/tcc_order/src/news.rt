@@ -7,26 +7,39 @@
 //! in vain.
 ghost use Rattle.std.specs.Prelude.{◌≡◌, ◌<◌, ◌≤◌, false, true, ℕ, List, min, length, replicate, slice_index, All, IfOk, OnOk};
 ghost use Rattle.std.specs.List.Sorted.{IsNonDecreasing};
-ghost use Rattle.tcc_reads.specs.History.{IsBySession, count};
+ghost use Rattle.tcc_reads.specs.History.{count};
 ghost use Rattle.tcc_graph.specs.{Relations.IsReadsPair, Keys.keys, Keys.key_at, Tables.row_of, Orders.IsNumbering, Walks.IsReached};
 ghost use Rattle.tcc_clocks.specs.{Parents.AreSteps, Parents.parents};
-ghost use Rattle.tcc_clocks.specs.Clocks.{AreOwners, AreClocks, LeadsOnward};
+ghost use Rattle.tcc_clocks.specs.Clocks.{AreClocks, LeadsOnward};
 ghost use Rattle.tcc_clocks.specs.{private.Rows.with_own, declared.latest.TheConstants.WIDE, declared.side.Side.TheVariants.Past};
-ghost use Rattle.tcc_order.specs.private.CausalLinks.{HasNone};
+ghost use Rattle.tcc_order.specs.private.{Blocks.IsBlock, CausalLinks.HasNone, Sweeps.IsSweep};
 ghost use Rattle.tcc_order.specs.private.News.{AreNews, AreNoted, AreRaised, AreReadingsOf, AreWider, HasClock, HasHeads, HaveHeads, HaveRisen, IsFloor, IsHead, IsHeld, IsKnown, IsTold, KeepHeads, KeepsHead, NoneBefore, TellsNone, known_of};
 
 use crate::block_start::{block_start, zeros_before};
-use crate::flat_rows::FlatRows;
-use crate::reading_rows::Readings;
+use crate::reading_rows::{Readings, sorted};
+use crate::sweep::Sweep;
 use std::alloc::{AllocError, Global};
 use tcc_clocks::{
     Clock, SharedRows, Side, Steps, WIDE, between, block_bounds, put_row, raise_each,
 };
 use tcc_graph::LargeGraph;
+use tcc_reads::FlatRows;
 use tcc_txn::NoMemory;
 
 /// How many rows of last writers there are at most: 32 MiB.
 const SLOTS: usize = 131_072;
+
+/// A block of sessions, as the search sees it.
+#[derive(Clone, Copy)]
+struct Block<'a> {
+    graph: &'a LargeGraph,
+    /// The session of each transaction.
+    owners: &'a [u32],
+    /// The first session of the block.
+    from: u32,
+    /// A number that is less than all transactions of the block.
+    floor: u32,
+}
 
 /// Raises the number of a session to that of its transaction `a`, if the session is in the block.
 fn raise_own(row: &mut [u32], owners: &[u32], from: u32, a: u32)
@@ -45,16 +58,16 @@ fn raise_own(row: &mut [u32], owners: &[u32], from: u32, a: u32)
 
 /// For each session of the block the greatest number that reaches `a`, or `a` itself in its own session. Each is at least the
 /// floor, which is less than all numbers of the block.
-fn known_by(table: &SharedRows, owners: &[u32], from: u32, floor: u32, a: u32) -> Clock
-    requires inside { a < length owners.now }
-    requires long { length table.now ≡ length owners.now }
+fn known_by(block: &Block<'_>, table: &SharedRows, a: u32) -> Clock
+    requires inside { a < length block.now.owners.now }
+    requires long { length table.now ≡ length block.now.owners.now }
     requires wide { length (row_of table.now a) ≡ WIDE }
     ensures wide { length result ≡ WIDE }
-    ensures each { (k : ℕ) → k < WIDE → slice_index result k ≡ known_of owners.now from floor (row_of table.now a) a k }
+    ensures each { (k : ℕ) → k < WIDE → slice_index result k ≡ known_of block.now.owners.now block.now.from block.now.floor (row_of table.now a) a k }
 {
-    let mut known = [floor; WIDE];
+    let mut known = [block.floor; WIDE];
     raise_each(&mut known, table.get(a));
-    raise_own(&mut known, owners, from, a);
+    raise_own(&mut known, block.owners, block.from, a);
     known
 }
 
@@ -103,52 +116,47 @@ fn is_held(owners: &[u32], from: u32, clock: &[u32], z: u32) -> bool
 }
 
 /// Whether `z` is at most the floor, so no transaction of the block, or is `a`, or is held by the clock.
-fn is_known(owners: &[u32], from: u32, floor: u32, clock: &[u32], a: u32, z: u32) -> bool
-    ensures { result ≡ true → IsKnown owners.now from floor clock.now a z }
+fn is_known(block: &Block<'_>, clock: &[u32], a: u32, z: u32) -> bool
+    ensures { result ≡ true → IsKnown block.now.owners.now block.now.from block.now.floor clock.now a z }
 {
-    if z <= floor || z == a {
+    if z <= block.floor || z == a {
         return true;
     }
-    is_held(owners, from, clock, z)
+    is_held(block.owners, block.from, clock, z)
 }
 
 /// Whether `c`, as it reads the key at an index from `a`, may tell that more has to be before `a` than its clock holds.
 fn may_tell(
     last: &[Clock],
     heads: &[u32],
-    owners: &[u32],
-    from: u32,
-    floor: u32,
-    graph: &LargeGraph,
+    block: &Block<'_>,
     table: &SharedRows,
     c: u32,
     key_index: u32,
     a: u32,
 ) -> bool
-    requires numbered { IsBySession graph.now.entries }
-    requires owners { AreOwners graph.now owners.now }
-    requires table { length table.now ≡ count graph.now }
-    requires clock { HasClock graph.now from table.now c }
-    requires source_clock { HasClock graph.now from table.now a }
-    requires floor { IsFloor owners.now from floor }
-    requires noted { AreNoted graph.now from (λ b. IsReached graph.now b c) last.now }
-    requires heads { HaveHeads graph.now from floor (λ b. IsReached graph.now b c) heads.now }
+    requires block { IsBlock block.now }
+    requires table { length table.now ≡ count block.now.graph.now }
+    requires clock { HasClock block.now.graph.now block.now.from table.now c }
+    requires source_clock { HasClock block.now.graph.now block.now.from table.now a }
+    requires noted { AreNoted block.now.graph.now block.now.from (λ b. IsReached block.now.graph.now b c) last.now }
+    requires heads { HaveHeads block.now.graph.now block.now.from block.now.floor (λ b. IsReached block.now.graph.now b c) heads.now }
     requires beside { length heads.now ≡ length last.now }
     requires some { 0 < length last.now }
-    requires reader { c < count graph.now }
-    requires source { a < count graph.now }
-    requires key { key_index < length (keys graph.now) }
-    ensures { result ≡ false → TellsNone graph.now from table.now a c (key_at graph.now key_index) }
+    requires reader { c < count block.now.graph.now }
+    requires source { a < count block.now.graph.now }
+    requires key { key_index < length (keys block.now.graph.now) }
+    ensures { result ≡ false → TellsNone block.now.graph.now block.now.from table.now a c (key_at block.now.graph.now key_index) }
 {
     if table.are_same(c, a) {
         return false;
     }
     let slot = key_index as usize % last.len();
     let clock = table.get(a);
-    if is_known(owners, from, floor, clock, a, heads[slot]) {
+    if is_known(block, clock, a, heads[slot]) {
         return false;
     }
-    let known = known_by(table, owners, from, floor, a);
+    let known = known_by(block, table, a);
     let reader = table.get(c);
     is_past(&last[slot], reader, &known)
 }
@@ -177,42 +185,35 @@ fn add_readings(
     rows: &mut Readings,
     last: &[Clock],
     heads: &[u32],
-    owners: &[u32],
-    from: u32,
-    floor: u32,
-    graph: &LargeGraph,
+    block: &Block<'_>,
     table: &SharedRows,
     found: &[u32],
     c: u32,
 ) -> Result<(), NoMemory>
-    requires numbered { IsBySession graph.now.entries }
-    requires owners { AreOwners graph.now owners.now }
-    requires table { length table.now ≡ count graph.now }
-    requires clock { HasClock graph.now from table.now c }
-    requires clocks { All (HasClock graph.now from table.now) found.now }
-    requires floor { IsFloor owners.now from floor }
-    requires noted { AreNoted graph.now from (λ b. IsReached graph.now b c) last.now }
-    requires heads { HaveHeads graph.now from floor (λ b. IsReached graph.now b c) heads.now }
+    requires block { IsBlock block.now }
+    requires table { length table.now ≡ count block.now.graph.now }
+    requires clock { HasClock block.now.graph.now block.now.from table.now c }
+    requires clocks { All (HasClock block.now.graph.now block.now.from table.now) found.now }
+    requires noted { AreNoted block.now.graph.now block.now.from (λ b. IsReached block.now.graph.now b c) last.now }
+    requires heads { HaveHeads block.now.graph.now block.now.from block.now.floor (λ b. IsReached block.now.graph.now b c) heads.now }
     requires beside { length heads.now ≡ length last.now }
     requires some { 0 < length last.now }
-    requires reader { c < count graph.now }
-    requires found { found.now ≡ parents graph.now c }
-    requires inside { All (λ p. p < count graph.now) found.now }
-    requires long { length rows.old ≡ count graph.now }
-    requires sound { (a : ℕ) → AreReadingsOf graph.now a (row_of rows.old a) }
+    requires reader { c < count block.now.graph.now }
+    requires found { found.now ≡ parents block.now.graph.now c }
+    requires inside { All (λ p. p < count block.now.graph.now) found.now }
+    requires long { length rows.old ≡ count block.now.graph.now }
+    requires sound { (a : ℕ) → AreReadingsOf block.now.graph.now a (row_of rows.old a) }
     ensures same { length rows.new ≡ length rows.old }
     ensures wider { OnOk result (AreWider rows.old rows.new) }
-    ensures sound { OnOk result ((a : ℕ) → AreReadingsOf graph.now a (row_of rows.new a)) }
-    ensures told { OnOk result ((a : ℕ) (x : List ℕ) → IsReadsPair graph.now a c x → IsTold graph.now from table.now a (row_of rows.new a) c x) }
+    ensures sound { OnOk result ((a : ℕ) → AreReadingsOf block.now.graph.now a (row_of rows.new a)) }
+    ensures told { OnOk result ((a : ℕ) (x : List ℕ) → IsReadsPair block.now.graph.now a c x → IsTold block.now.graph.now block.now.from table.now a (row_of rows.new a) c x) }
 {
     if are_sources_same(table, found, c) {
         return Ok(());
     }
-    for read in graph.reads_at(c) {
+    for read in block.graph.reads_at(c) {
         let (key_index, a) = *read;
-        if may_tell(
-            last, heads, owners, from, floor, graph, table, c, key_index, a,
-        ) {
+        if may_tell(last, heads, block, table, c, key_index, a) {
             rows.push(a, (c, key_index))?;
         }
     }
@@ -220,36 +221,25 @@ fn add_readings(
 }
 
 /// The head of a row after a transaction was noted there: this transaction, if all that were noted reach it, or else none.
-fn head_after(
-    row: &[u32],
-    head: u32,
-    owners: &[u32],
-    from: u32,
-    floor: u32,
-    graph: &LargeGraph,
-    table: &SharedRows,
-    c: u32,
-) -> u32
-    requires numbered { IsBySession graph.now.entries }
-    requires owners { AreOwners graph.now owners.now }
-    requires table { length table.now ≡ count graph.now }
-    requires clock { HasClock graph.now from table.now c }
-    requires floor { IsFloor owners.now from floor }
+fn head_after(row: &[u32], head: u32, block: &Block<'_>, table: &SharedRows, c: u32) -> u32
+    requires block { IsBlock block.now }
+    requires table { length table.now ≡ count block.now.graph.now }
+    requires clock { HasClock block.now.graph.now block.now.from table.now c }
     requires wide { length row.now ≡ WIDE }
-    requires below { c < count graph.now }
-    requires above { floor < c }
-    ensures own { IsHead graph.now floor c result }
-    ensures kept { KeepsHead graph.now from floor row.now head result }
+    requires below { c < count block.now.graph.now }
+    requires above { block.now.floor < c }
+    ensures own { IsHead block.now.graph.now block.now.floor c result }
+    ensures kept { KeepsHead block.now.graph.now block.now.from block.now.floor row.now head result }
 {
     let clock = table.get(c);
-    if is_known(owners, from, floor, clock, c, head) {
+    if is_known(block, clock, c, head) {
         return c;
     }
-    let none = graph.count();
+    let none = block.graph.count();
     if head < none {
         return none;
     }
-    let known = known_by(table, owners, from, floor, c);
+    let known = known_by(block, table, c);
     if is_past(row, row, &known) { none } else { c }
 }
 
@@ -259,88 +249,53 @@ fn raise_keys(
     heads: &mut [u32],
     key_indices: &[u32],
     session: usize,
-    owners: &[u32],
-    from: u32,
-    floor: u32,
-    graph: &LargeGraph,
+    block: &Block<'_>,
     table: &SharedRows,
     c: u32,
 )
-    requires numbered { IsBySession graph.now.entries }
-    requires owners { AreOwners graph.now owners.now }
-    requires table { length table.now ≡ count graph.now }
-    requires clock { HasClock graph.now from table.now c }
-    requires floor { IsFloor owners.now from floor }
+    requires block { IsBlock block.now }
+    requires table { length table.now ≡ count block.now.graph.now }
+    requires clock { HasClock block.now.graph.now block.now.from table.now c }
     requires beside { length heads.old ≡ length last.old }
     requires some { 0 < length last.old }
     requires session { session < WIDE }
-    requires below { c < count graph.now }
-    requires above { floor < c }
+    requires below { c < count block.now.graph.now }
+    requires above { block.now.floor < c }
     ensures same { length last.new ≡ length last.old }
     ensures heads { length heads.new ≡ length heads.old }
     ensures raised { AreRaised key_indices.now session c last.old last.new }
-    ensures kept { KeepHeads graph.now from floor last.old heads.old heads.new }
-    ensures own { HasHeads graph.now floor c key_indices.now heads.new }
+    ensures kept { KeepHeads block.now.graph.now block.now.from block.now.floor last.old heads.old heads.new }
+    ensures own { HasHeads block.now.graph.now block.now.floor c key_indices.now heads.new }
 {
     for key_index in key_indices {
         let slot = *key_index as usize % last.len();
-        heads[slot] = head_after(
-            &last[slot],
-            heads[slot],
-            owners,
-            from,
-            floor,
-            graph,
-            table,
-            c,
-        );
+        heads[slot] = head_after(&last[slot], heads[slot], block, table, c);
         let row = &mut last[slot];
         row[session] = c.max(row[session]);
     }
 }
 
 /// Notes a transaction as the last writer of its keys, if its session is in the block.
-fn note_writer(
-    last: &mut [Clock],
-    heads: &mut [u32],
-    owners: &[u32],
-    from: u32,
-    floor: u32,
-    graph: &LargeGraph,
-    table: &SharedRows,
-    c: u32,
-)
-    requires numbered { IsBySession graph.now.entries }
-    requires owners { AreOwners graph.now owners.now }
-    requires table { length table.now ≡ count graph.now }
-    requires clock { HasClock graph.now from table.now c }
-    requires floor { IsFloor owners.now from floor }
+fn note_writer(last: &mut [Clock], heads: &mut [u32], block: &Block<'_>, table: &SharedRows, c: u32)
+    requires block { IsBlock block.now }
+    requires table { length table.now ≡ count block.now.graph.now }
+    requires clock { HasClock block.now.graph.now block.now.from table.now c }
     requires beside { length heads.old ≡ length last.old }
     requires some { 0 < length last.old }
-    requires below { c < count graph.now }
+    requires below { c < count block.now.graph.now }
     ensures same { length last.new ≡ length last.old }
     ensures heads { length heads.new ≡ length heads.old }
     ensures rise { HaveRisen last.old last.new }
-    ensures noted { AreNoted graph.now from (λ b. b ≡ c) last.new }
-    ensures kept { KeepHeads graph.now from floor last.old heads.old heads.new }
-    ensures own { HaveHeads graph.now from floor (λ b. b ≡ c) heads.new }
+    ensures noted { AreNoted block.now.graph.now block.now.from (λ b. b ≡ c) last.new }
+    ensures kept { KeepHeads block.now.graph.now block.now.from block.now.floor last.old heads.old heads.new }
+    ensures own { HaveHeads block.now.graph.now block.now.from block.now.floor (λ b. b ≡ c) heads.new }
 {
-    let owner = owners[c as usize];
-    if c > 0 && owner >= from {
-        let session = (owner - from) as usize;
+    let owner = block.owners[c as usize];
+    if c > 0 && owner >= block.from {
+        let session = (owner - block.from) as usize;
         if session < WIDE {
-            raise_keys(
-                last,
-                heads,
-                graph.writes_at(c),
-                session,
-                owners,
-                from,
-                floor,
-                graph,
-                table,
-                c,
-            );
+            let key_indices = block.graph.writes_at(c);
+            raise_keys(last, heads, key_indices, session, block, table, c);
         }
     }
 }
@@ -352,42 +307,44 @@ fn add_along(
     rows: &mut Readings,
     last: &mut [Clock],
     heads: &mut [u32],
-    owners: &[u32],
-    from: u32,
-    graph: &LargeGraph,
+    block: &Block<'_>,
     table: &mut SharedRows,
     order: &[u32],
     start: usize,
     steps: &Steps,
 ) -> Result<(), NoMemory>
-    requires numbered { IsBySession graph.now.entries }
-    requires owners { AreOwners graph.now owners.now }
-    requires numbering { IsNumbering (count graph.now) order.now }
-    requires onward { LeadsOnward graph.now order.now }
-    requires steps { AreSteps graph.now order.now steps.now.spans.items steps.now.numbers.items (length order.now) }
-    requires begun { NoneBefore owners.now from order.now start }
+    requires block { IsBlock block.now }
+    requires numbering { IsNumbering (count block.now.graph.now) order.now }
+    requires onward { LeadsOnward block.now.graph.now order.now }
+    requires steps { AreSteps block.now.graph.now order.now steps.now.spans.items steps.now.numbers.items (length order.now) }
+    requires begun { NoneBefore block.now.owners.now block.now.from order.now start }
     requires within { start ≤ length order.now }
-    requires table { length table.old ≡ count graph.now }
+    requires table { length table.old ≡ count block.now.graph.now }
     requires zeros { (j : ℕ) → j < start → row_of table.old (slice_index order.now j) ≡ replicate WIDE 0 }
     requires beside { length heads.old ≡ length last.old }
     requires some { 0 < length last.old }
-    requires long { length rows.old ≡ count graph.now }
+    requires long { length rows.old ≡ count block.now.graph.now }
     requires none { HasNone rows.old }
     ensures same { length rows.new ≡ length rows.old }
     ensures rows { length last.new ≡ length last.old }
     ensures heads { length heads.new ≡ length heads.old }
-    ensures clocks { OnOk result (AreClocks graph.now from table.new) }
-    ensures news { OnOk result (AreNews graph.now from table.new rows.new) }
+    ensures clocks { OnOk result (AreClocks block.now.graph.now block.now.from table.new) }
+    ensures news { OnOk result (AreNews block.now.graph.now block.now.from table.new rows.new) }
 {
-    let floor = floor_of(owners, from);
     for position in start..order.len() {
         let c = order[position];
         let found = between(&steps.numbers, steps.spans[position]);
-        put_row(table, Side::Past, graph, owners, from, found, c)?;
-        add_readings(
-            rows, last, heads, owners, from, floor, graph, table, found, c,
+        put_row(
+            table,
+            Side::Past,
+            block.graph,
+            block.owners,
+            block.from,
+            found,
+            c,
         )?;
-        note_writer(last, heads, owners, from, floor, graph, table, c);
+        add_readings(rows, last, heads, block, table, found, c)?;
+        note_writer(last, heads, block, table, c);
     }
     Ok(())
 }
@@ -398,32 +355,41 @@ pub(crate) fn find_news(
     alloc: Global,
     last: &mut [Clock],
     heads: &mut [u32],
-    owners: &[u32],
+    sweep: &Sweep<'_>,
     from: u32,
-    graph: &LargeGraph,
     table: &mut SharedRows,
-    order: &[u32],
-    steps: &Steps,
 ) -> Result<FlatRows<(u32, u32)>, NoMemory>
-    requires numbered { IsBySession graph.now.entries }
-    requires owners { AreOwners graph.now owners.now }
-    requires numbering { IsNumbering (count graph.now) order.now }
-    requires onward { LeadsOnward graph.now order.now }
-    requires steps { AreSteps graph.now order.now steps.now.spans.items steps.now.numbers.items (length order.now) }
-    requires table { length table.old ≡ count graph.now }
+    requires sweep { IsSweep sweep.now }
+    requires table { length table.old ≡ count sweep.now.graph.now }
     requires beside { length heads.old ≡ length last.old }
     requires some { 0 < length last.old }
     ensures rows { length last.new ≡ length last.old }
     ensures heads { length heads.new ≡ length heads.old }
-    ensures clocks { OnOk result (AreClocks graph.now from table.new) }
-    ensures news { IfOk result (AreNews graph.now from table.new) }
+    ensures clocks { OnOk result (AreClocks sweep.now.graph.now from table.new) }
+    ensures news { IfOk result (AreNews sweep.now.graph.now from table.new) }
 {
+    let graph = sweep.graph;
+    let owners = sweep.owners.as_slice();
+    let order = sweep.order;
     let start = block_start(order, owners, from);
     zeros_before(table, order, start)?;
     let mut found = Readings::new(alloc, graph.count())?;
+    let block = Block {
+        graph,
+        owners,
+        from,
+        floor: floor_of(owners, from),
+    };
     add_along(
-        &mut found, last, heads, owners, from, graph, table, order, start, steps,
+        &mut found,
+        last,
+        heads,
+        &block,
+        table,
+        order,
+        start,
+        &sweep.steps,
     )?;
-    let rows = found.sorted(alloc, graph.count())?;
+    let rows = sorted(alloc, &found, graph.count())?;
     Ok(rows)
 }

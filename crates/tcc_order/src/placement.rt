@@ -1,5 +1,5 @@
 //! The result of the search for a commit order.
-use tcc_bits::Row;
+use tcc_reads::FlatRows;
 
 /// The first commit order, or where it stops.
 #[derive(Drop)]
@@ -15,7 +15,7 @@ pub enum Placement {
 /// after one that is left.
 #[derive(Drop)]
 pub struct Stuck {
-    pub kept: Vec<Row<u32>>,
+    pub kept: FlatRows<u32>,
     pub placed: Vec<u64>,
 }
 

@@ -1,5 +1,5 @@
 //! Numbers of which the least is taken out next: a binary heap, with log N steps for each that is added to or taken out of N.
-ghost use Rattle.std.specs.Prelude.{◌≡◌, ◌⊎◌, ◌↔◌, ℕ, Contains, IfOk, OnOk, MatchOption};
+ghost use Rattle.std.specs.Prelude.{◌≡◌, ◌⊎◌, ◌↔◌, ℕ, Contains, OnOk, MatchOption};
 ghost use Rattle.tcc_order.specs.private.Queued.{IsPopped};
 
 use std::alloc::{AllocError, Global};

@@ -2,37 +2,18 @@
 ghost use Rattle.std.specs.Prelude.{◌≡◌, length, IfOk, OnOk};
 ghost use Rattle.tcc_order.specs.private.CausalLinks.{HasNone};
 
-use crate::flat_rows::FlatRows;
 use std::alloc::{AllocError, Global};
 use tcc_bits::Row;
 use tcc_txn::NoMemory;
 
-/// Rows, or the error that memory is out.
-pub(crate) type MadeRows<T> = Result<Vec<Row<T>>, NoMemory>;
-
 /// This many empty rows.
-pub(crate) fn empty_rows<T: Copy>(alloc: Global, count: u32) -> MadeRows<T>
+pub(crate) fn empty_rows<T: Copy>(alloc: Global, count: u32) -> Result<Vec<Row<T>>, NoMemory>
     ensures long { IfOk result (λ rows. length rows.items ≡ count) }
     ensures none { IfOk result (λ rows. HasNone rows.items) }
 {
     let mut rows = Vec::new(alloc);
     for _row in 0..count {
         rows.push(Row::new(Vec::new(alloc)))?;
-    }
-    Ok(rows)
-}
-
-/// The rows of one list, each as a list of its own.
-pub(crate) fn rows_apart(alloc: Global, flat: &FlatRows<u32>, count: u32) -> MadeRows<u32>
-    requires { length flat.now ≡ count }
-    ensures { IfOk result (λ rows. rows.items ≡ flat.now) }
-{
-    let mut rows = Vec::new(alloc);
-    for number in 0..count {
-        let mut row = Vec::new(alloc);
-        row.extend_from_slice(flat.row(number))?;
-        let list = Row::new(row);
-        rows.push(list)?;
     }
     Ok(rows)
 }

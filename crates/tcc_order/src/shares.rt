@@ -2,22 +2,23 @@
 //! No block depends on another. The results of the shares are joined in the order of the blocks, as one thread would add them.
 //! Each share has tables of its own: at most a row of 64 numbers for each transaction, and 32 MiB for keys. So there are at
 //! most as many shares as fit into `ROWS_AT_ONCE` rows.
-ghost use Rattle.std.specs.Prelude.{◌≡◌, ◌<◌, ◌≤◌, ◌+◌, ◌*◌, ◌⊎◌, ℕ, length, IfOk};
+ghost use Rattle.std.specs.Prelude.{◌≡◌, ◌<◌, ◌≤◌, ◌+◌, ◌*◌, ◌⊎◌, length, IfOk};
 ghost use Rattle.tcc_reads.specs.History.{count};
-ghost use Rattle.tcc_graph.specs.{Levels.causally, Tables.row_of, Orders.IsNumbering};
+ghost use Rattle.tcc_graph.specs.{Levels.causally, Orders.IsNumbering};
 ghost use Rattle.tcc_clocks.specs.{Parents.ArePrevious, Clocks.LeadsOnward, declared.latest.TheConstants.WIDE};
 ghost use Rattle.tcc_order.specs.private.CausalLinks.{AreJoined, AreLinks, AreLinksFrom};
 ghost use Rattle.tcc_order.specs.private.Sweeps.{HaveLinks, IsSweep, start_of};
 
-use crate::causal_links::{Sweep, links_from};
-use crate::flat_rows::FlatRows;
+use crate::causal_links::links_from;
 use crate::rows::refill;
+use crate::sweep::Sweep;
 use rayon::prelude::*;
 use std::alloc::Global;
 use std::thread::Threads;
 use tcc_base::Workers;
-use tcc_clocks::{WIDE, needed_blocks, owners, steps_along};
+use tcc_clocks::WIDE;
 use tcc_graph::LargeGraph;
+use tcc_reads::FlatRows;
 use tcc_txn::NoMemory;
 
 /// How many rows the tables of all shares have at most, if there is more than one share: 1 GiB.
@@ -93,8 +94,8 @@ fn join(
     let mut row = Vec::new(alloc);
     let mut joined = FlatRows::with_room(alloc, count)?;
     for number in 0..count {
-        let before = kept.row(number);
-        let more = part.row(number);
+        let before = kept.row(number as usize);
+        let more = part.row(number as usize);
         refill(&mut row, before)?;
         row.extend_from_slice(more)?;
         joined.push(&row)?;
@@ -133,16 +134,7 @@ pub(crate) fn causal_links_by(
     requires onward { LeadsOnward graph.now order.now }
     ensures { IfOk result (AreLinks (causally graph.now)) }
 {
-    let owners = owners(alloc, graph)?;
-    let steps = steps_along(alloc, graph, parents, order)?;
-    let needed = needed_blocks(alloc, graph, &owners)?;
-    let sweep = Sweep {
-        graph,
-        owners: &owners,
-        order,
-        steps: &steps,
-        needed: &needed,
-    };
+    let sweep = Sweep::new(alloc, graph, parents, order)?;
     let blocks = graph.sessions().len().div_ceil(WIDE);
     let count = shares_for(workers.count(), blocks as u32, graph.count());
     let shares = Shares {

@@ -80,6 +80,19 @@ one_name (key ∷ keys) from k x y at there = go (bytes_eq x key) refl (bytes_eq
 
 -- ---- keys that are in the list
 
+within_from : {X : Type 0} (p : X → Bool) (from : ℕ) (xs : List X) (k : ℕ) → position_from p from xs ≡ Some k → k < from + length xs
+within_from p from [] k is = absurd cc
+within_from p from (x ∷ xs) k is = go (p x) is (within_from p (from + 1) xs k)
+  where
+    go : (b : Bool) → cond b (Some from) (position_from p (from + 1) xs) ≡ Some k
+        → (position_from p (from + 1) xs ≡ Some k → k < from + 1 + length xs) → k < from + suc (length xs)
+    go true e rest = let same : from ≡ k = cc in omega arith
+    go false e rest = let later = rest e in omega arith
+
+-- an index is within the list
+pub index_within : (keys : List (List ℕ)) (x : List ℕ) (k : ℕ) → index_of keys x ≡ Some k → k < length keys
+index_within keys x k at = let upto = within_from (bytes_eq x) 0 keys k at in omega (arith, upto)
+
 pub index_is : (keys : List (List ℕ)) (x : List ℕ) → has_key keys x ≡ true → index_of keys x ≡ Some (key_index keys x)
 index_is keys x there = let w = some_position (bytes_eq x) 0 keys there in w.1 ∙ ap Some (sym (ap (λ o. unwrap_or o 0) w.1))
 

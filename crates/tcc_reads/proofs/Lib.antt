@@ -19,3 +19,6 @@ pub mod Rewrites
 pub mod Traces
 pub mod StoredEntries
 pub mod OneSource
+pub mod FlatLemmas
+pub mod FillingLemmas
+pub mod ListsLemmas

@@ -1,5 +1,5 @@
 -- Transactions of a resolved history by the indices of their keys.
-use Rattle.std.specs.Prelude.{ℕ, ◌<◌, List, map, All}
+use Rattle.std.specs.Prelude.{ℕ, ◌<◌, List, [], map, slice_index_or, All}
 use Rattle.tcc_txn.specs.KeyNumbers.{name_at}
 use Rattle.tcc_reads.specs.History.{Entry}
 
@@ -9,6 +9,14 @@ pub record Indexed : Type 0 where
   pub place : ℕ
   pub writes : List ℕ
   pub reads : List (ℕ × ℕ)
+
+-- `init`
+abbrev pub unindexed : Indexed
+unindexed = record { owner = 0; place = 0; writes = []; reads = [] }
+
+-- the transaction of a number, `init` past the last one
+abbrev pub indexed_of : List Indexed → ℕ → Indexed
+indexed_of indexed n = slice_index_or indexed n unindexed
 
 -- reads by the names of the keys
 abbrev pub named : List (List ℕ) → List (ℕ × ℕ) → List (List ℕ × ℕ)

@@ -6,4 +6,5 @@ pub mod Faults
 pub mod Refusals
 pub mod Traced
 pub mod OneSource
+pub mod Filling
 pub mod private

@@ -5,3 +5,5 @@ pub mod Verdicts
 pub mod Stored
 pub mod Sorting
 pub mod Tracings
+pub mod Flat
+pub mod Lists

@@ -1,6 +1,6 @@
 //! The keys of a snapshot's operations, each by its index in byte order. Each name is looked up once, however many operations
-//! it has. A look-up asks a cache of indices and compares one name. If that is another name, it searches the names by halving,
-//! in as many steps as the logarithm of their count.
+//! it has. A look-up asks a cache of indices and compares one name or two. If they are others, it searches the names by
+//! halving, in as many steps as the logarithm of their count.
 ghost use Rattle.std.specs.Prelude.{All, ◌≡◌, ◌<◌, ◌≤◌, true, List, ℕ, length, map, slice_index_or, IfOk, IfSome};
 ghost use Rattle.std.specs.FinMap.{entries};
 ghost use Rattle.std.specs.List.Sorted.{IsStrictlySortedBy};
@@ -88,14 +88,24 @@ impl Keys {
         self.names
     }
 
+    /// The index, if the key is at it. `None` says nothing about the key.
+    fn checked(&self, key: &Name, index: u32) -> Option<u32>
+        ensures { IfSome result (λ k. IsNumber self.now key.now k) }
+    {
+        match self.names.get(index as usize) {
+            Some(name) => { if *name == *key { Some(index) } else { None } }
+            None => None,
+        }
+    }
+
     /// The index of a key that the cache knows. `None` says nothing about the key.
     fn near(&self, key: &Name) -> Option<u32>
         ensures { IfSome result (λ k. IsNumber self.now key.now k) }
     {
-        let index = self.nearby.number(key);
-        match self.names.get(index as usize) {
-            Some(name) => { if *name == *key { Some(index) } else { None } }
-            None => None,
+        let (last, before) = self.nearby.numbers(key);
+        match self.checked(key, last) {
+            Some(index) => Some(index),
+            None => self.checked(key, before),
         }
     }
 

@@ -2,7 +2,8 @@
 #![tactic(auto)]
 
 mod fault;
-mod indexed;
+mod filling_rows;
+mod flat_rows;
 mod judging;
 mod keys;
 pub mod laws;
@@ -13,11 +14,14 @@ mod resolver;
 mod sorting;
 mod tracing;
 mod transaction;
+mod transactions;
 mod writers;
 
 pub use fault::{ReadFault, ReadFaultKind, ResolveFault};
-pub use indexed::Indexed;
+pub use filling_rows::FillingRows;
+pub use flat_rows::FlatRows;
 pub use resolved::{HistoryParts, LargeResolved, Resolved};
 pub use resolver::{resolve, resolve_large};
 pub use tracing::{Traced, resolve_traced};
 pub use transaction::Transaction;
+pub use transactions::Transactions;

@@ -6,7 +6,7 @@ ghost use Rattle.tcc_reads.specs.History.{count, entry_at, initial, IsBySession,
 ghost use Rattle.tcc_reads.specs.{Indexed.IsWithin, Indexed.entries_of, private.Stored.AreNamed};
 ghost use Rattle.tcc_reads.specs.Sources.{name_cmp, pair_cmp};
 
-use crate::{Indexed, Transaction};
+use crate::{Transaction, Transactions};
 use std::alloc::Global;
 use std::marker::Model;
 use std::ops::Deref;
@@ -20,7 +20,7 @@ pub struct LargeResolved {
     pub(crate) sessions: Vec<Name>,
     pub(crate) keys: Vec<Name>,
     pub(crate) places: Vec<(u32, u32)>,
-    pub(crate) transactions: Vec<Indexed>,
+    pub(crate) transactions: Transactions,
 }
 
 impl Model for LargeResolved {
@@ -28,10 +28,10 @@ impl Model for LargeResolved {
 
     ghost Value = { History };
 
-    ghost view = { λ r. record { sessions = r.sessions.items; entries = entries_of r.keys.items r.transactions.items } };
+    ghost view = { λ r. record { sessions = r.sessions.items; entries = entries_of r.keys.items r.transactions } };
 
-    ghost invariant = { λ r. IsStored r.sessions.items r.places.items (entries_of r.keys.items r.transactions.items)
-        × AreKeyed r.keys.items r.transactions.items };
+    ghost invariant = { λ r. IsStored r.sessions.items r.places.items (entries_of r.keys.items r.transactions)
+        × AreKeyed r.keys.items r.transactions };
 }
 
 /// What a resolved history holds.
@@ -42,7 +42,7 @@ pub struct HistoryParts {
     /// Names of keys, in byte order, each once. They include those that the transactions write and read.
     pub keys: Vec<Name>,
     /// The transactions by number, each by the indices of its keys.
-    pub transactions: Vec<Indexed>,
+    pub transactions: Transactions,
 }
 
 impl LargeResolved {
@@ -70,8 +70,8 @@ impl LargeResolved {
     /// The names of the sessions and of the keys, and the transactions, by number, by value.
     pub fn into_parts(self) -> HistoryParts
         ensures sessions { result.sessions.items ≡ self.sessions }
-        ensures transactions { entries_of result.keys.items result.transactions.items ≡ self.entries }
-        ensures within { All (IsWithin (length result.keys.items)) result.transactions.items }
+        ensures transactions { entries_of result.keys.items result.transactions ≡ self.entries }
+        ensures within { All (IsWithin (length result.keys.items)) result.transactions }
         ensures sorted { IsStrictlySortedBy name_cmp result.keys.items }
         ensures few_keys { length result.keys.items ≤ u32.MAX }
         ensures few_sessions { length self.sessions ≤ LARGE_SESSIONS }
@@ -103,14 +103,14 @@ impl LargeResolved {
 fn named_by(
     alloc: Global,
     keys: &[Name],
-    transactions: &[Indexed],
+    transactions: &Transactions,
 ) -> Result<Vec<Transaction>, NoMemory>
     requires { All (IsWithin (length keys.now)) transactions.now }
     ensures { IfOk result (λ named. named.items ≡ entries_of keys.now transactions.now) }
 {
     let mut named = Vec::with_capacity(alloc, transactions.len())?;
-    for transaction in transactions {
-        named.push(Transaction::of(alloc, keys, transaction)?)?;
+    for number in 0..transactions.len() {
+        named.push(Transaction::of(alloc, keys, transactions, number)?)?;
     }
     Ok(named)
 }

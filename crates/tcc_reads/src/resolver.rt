@@ -13,7 +13,7 @@ use crate::located::{LocatedTxn, Place};
 use crate::numbering::{self, session_names, unpack_txn};
 use crate::sorting::sorted_once;
 use crate::writers::{FirstWrites, fill_keys, first_writes};
-use crate::{Indexed, LargeResolved, ReadFault, ResolveFault, Resolved};
+use crate::{LargeResolved, ReadFault, ResolveFault, Resolved, Transactions};
 use std::alloc::{AllocError, Global};
 use tcc_txn::{Bounds, LargeSnapshot, NoMemory, Op, Snapshot, SnapshotWithin};
 
@@ -44,82 +44,74 @@ fn reads_in_order(keys: &Keys, reads: Vec<(u32, u32)>) -> Vec<(u32, u32)>
     sorted_once(reads)
 }
 
-/// A committed transaction of these operations, by the indices of their keys, with its external reads.
-pub(crate) fn transaction(
+/// These transactions, and a committed one of these operations, by the indices of their keys, with its external reads.
+pub(crate) fn with_transaction(
     alloc: Global,
+    transactions: Transactions,
     keys: &Keys,
     located: &LocatedTxn<'_>,
     ops: &[Op],
     indices: &[u32],
     reads: Vec<(u32, u32)>,
-) -> Result<Indexed, NoMemory>
+) -> Result<Transactions, NoMemory>
     requires ops { ops.now ≡ located.now.stand.txn.ops }
     requires indices { AreNumbers keys.now indices.now (map op_key ops.now) }
     requires within { All (λ read. read.0 < length keys.now) reads.items }
-    ensures entry { IfOk result (λ transaction. entry_of keys.now transaction ≡ record {
+    ensures entries { IfOk result (λ more. entries_of keys.now more ≡ entries_of keys.now transactions ++ record {
       owner = located.now.stand.session;
       place = located.now.stand.place;
       writes = writes_of located.now.stand;
       reads = sorted_once pair_cmp (named keys.now reads.items);
-    }) }
-    ensures within { IfOk result (λ transaction. IsWithin (length keys.now) transaction) }
+    } ∷ []) }
+    ensures within { IfOk result (λ more. All (IsWithin (length keys.now)) transactions → All (IsWithin (length keys.now)) more) }
 {
-    Ok(Indexed {
-        owner: located.session,
-        place: located.place,
-        writes: written_keys(alloc, keys, ops, indices)?,
-        reads: reads_in_order(keys, reads),
-    })
+    let writes = written_keys(alloc, keys, ops, indices)?;
+    let reads = reads_in_order(keys, reads);
+    let more = transactions.with((located.session, located.place), &writes, &reads)?;
+    Ok(more)
 }
 
-/// Adds a transaction of these operations, by the indices of their keys, if it was committed, and its faults.
+/// These transactions, and one of these operations, by the indices of their keys, if it was committed. It adds its faults.
 fn examine_one(
     alloc: Global,
     first: &FirstWrites,
     located: &LocatedTxn<'_>,
     ops: &[Op],
     indices: &[u32],
-    transactions: &mut Vec<Indexed>,
+    transactions: Transactions,
     faults: &mut Vec<ReadFault>,
-) -> Result<(), NoMemory>
+) -> Result<Transactions, NoMemory>
     requires ops { ops.now ≡ located.now.stand.txn.ops }
     requires few { length ops.now ≤ MAX_OPERATIONS }
     requires indices { AreNumbers first.now.writers.keys indices.now (map op_key ops.now) }
     requires own { first.now.distinct ≡ true → AreOwnIn (writers_in first.now.writers) located.now [] ops.now }
-    ensures transactions { OnOk result (entries_of first.now.writers.keys transactions.new.items
-        ≡ entries_of first.now.writers.keys transactions.old.items ++ entries_found (writers_in first.now.writers) (located.now ∷ [])) }
-    ensures within { OnOk result (All (IsWithin (length first.now.writers.keys)) transactions.old.items → All (IsWithin (length first.now.writers.keys)) transactions.new.items) }
+    ensures transactions { IfOk result (λ more. entries_of first.now.writers.keys more
+        ≡ entries_of first.now.writers.keys transactions ++ entries_found (writers_in first.now.writers) (located.now ∷ [])) }
+    ensures within { IfOk result (λ more. All (IsWithin (length first.now.writers.keys)) transactions → All (IsWithin (length first.now.writers.keys)) more) }
     ensures faults { OnOk result (faults.new.items ≡ faults.old.items ++ faults_found (writers_in first.now.writers) located.now) }
 {
     let (writers, distinct) = (&first.writers, first.distinct);
     let reads = judge(alloc, writers, distinct, located, ops, indices, faults)?;
-    if located.txn.committed() {
-        let keys = writers.keys();
-        transactions.push(transaction(alloc, keys, located, ops, indices, reads)?)?;
+    if !located.txn.committed() {
+        return Ok(transactions);
     }
-    Ok(())
+    let keys = writers.keys();
+    with_transaction(alloc, transactions, keys, located, ops, indices, reads)
 }
 
 /// The initial and the committed transactions, and all faults.
 #[derive(Drop)]
 pub(crate) struct Findings {
-    pub transactions: Vec<Indexed>,
+    pub transactions: Transactions,
     pub faults: Vec<ReadFault>,
 }
 
 /// The initial transaction alone.
-pub(crate) fn with_initial(alloc: Global) -> Result<Vec<Indexed>, AllocError>
-    ensures entry { IfOk result (λ transactions. (keys : List (List ℕ)) → entries_of keys transactions.items ≡ initial ∷ []) }
-    ensures within { IfOk result (λ transactions. (n : ℕ) → All (IsWithin n) transactions.items) }
+pub(crate) fn with_initial(alloc: Global) -> Result<Transactions, AllocError>
+    ensures entry { IfOk result (λ transactions. (keys : List (List ℕ)) → entries_of keys transactions ≡ initial ∷ []) }
+    ensures within { IfOk result (λ transactions. (n : ℕ) → All (IsWithin n) transactions) }
 {
-    let mut transactions = Vec::new(alloc);
-    transactions.push(Indexed {
-        owner: 0,
-        place: 0,
-        writes: Vec::new(alloc),
-        reads: Vec::new(alloc),
-    })?;
-    Ok(transactions)
+    Transactions::new(alloc).with((0, 0), &[], &[])
 }
 
 pub(crate) fn examine<B: Bounds>(
@@ -131,9 +123,9 @@ pub(crate) fn examine<B: Bounds>(
     requires places { All (IsPlace snapshot.now) places.now }
     requires indices { AreNumbers first.now.writers.keys first.now.indices.items (keys_used (numbered snapshot.now places.now)) }
     requires own { first.now.distinct ≡ true → AreOwn (writers_in first.now.writers) (numbered snapshot.now places.now) }
-    ensures transactions { IfOk result (λ found. entries_of first.now.writers.keys found.transactions.items
+    ensures transactions { IfOk result (λ found. entries_of first.now.writers.keys found.transactions
         ≡ initial ∷ entries_found (writers_in first.now.writers) (numbered snapshot.now places.now)) }
-    ensures within { IfOk result (λ found. All (IsWithin (length first.now.writers.keys)) found.transactions.items) }
+    ensures within { IfOk result (λ found. All (IsWithin (length first.now.writers.keys)) found.transactions) }
     ensures faults { IfOk result (λ found. found.faults.items ≡ flat_map (faults_found (writers_in first.now.writers)) (numbered snapshot.now places.now)) }
 {
     let mut transactions = with_initial(alloc)?;
@@ -143,13 +135,13 @@ pub(crate) fn examine<B: Bounds>(
     for place in places {
         let located = unpack_txn(snapshot, place, &mut ops)?;
         let (mine, later) = left.split_at(ops.len());
-        examine_one(
+        transactions = examine_one(
             alloc,
             first,
             &located,
             &ops,
             mine,
-            &mut transactions,
+            transactions,
             &mut faults,
         )?;
         left = later;
@@ -161,14 +153,13 @@ pub(crate) fn examine<B: Bounds>(
 }
 
 /// The index of the session and the place, from number 1 on.
-pub(crate) fn places(alloc: Global, transactions: &[Indexed]) -> Result<Vec<(u32, u32)>, AllocError>
+pub(crate) fn places(
+    alloc: Global,
+    transactions: &Transactions,
+) -> Result<Vec<(u32, u32)>, AllocError>
     ensures { IfOk result (λ places. places.items ≡ map (λ p. (p.owner, p.place)) (drop 1 transactions.now)) }
 {
-    transactions
-        .iter()
-        .skip(1)
-        .map(|transaction| (transaction.owner, transaction.place))
-        .collect(alloc)
+    transactions.places().iter().skip(1).copied().collect(alloc)
 }
 
 /// Finds the source of each external read of the committed transactions of a snapshot within either limits, or else all

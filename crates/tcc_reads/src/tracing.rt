@@ -10,9 +10,9 @@ ghost use Rattle.tcc_reads.specs.Traced.{is_duplicate, is_rewrite, is_unique, tr
 use crate::judging::trace;
 use crate::located::{LocatedTxn, Place};
 use crate::numbering::{self, session_names, unpack_txn};
-use crate::resolver::{Findings, examine, places, transaction, with_initial};
+use crate::resolver::{Findings, examine, places, with_initial, with_transaction};
 use crate::writers::{FirstWrites, first_writes};
-use crate::{Indexed, LargeResolved, ReadFault, ReadFaultKind};
+use crate::{LargeResolved, ReadFault, ReadFaultKind, Transactions};
 use std::alloc::{AllocError, Global};
 use std::collections::BTreeSet;
 use tcc_txn::{Bounds, Name, NoMemory, Op, SnapshotWithin};
@@ -61,7 +61,8 @@ fn rewrites(alloc: Global, faults: &[ReadFault]) -> Result<BTreeSet<(Name, u64)>
     Ok(found)
 }
 
-/// Adds a transaction of these operations, by the indices of their keys, if it was committed, with the reads that can be traced.
+/// These transactions, and one of these operations, by the indices of their keys, if it was committed, with the reads that can
+/// be traced.
 fn trace_one(
     alloc: Global,
     first: &FirstWrites,
@@ -69,21 +70,21 @@ fn trace_one(
     located: &LocatedTxn<'_>,
     ops: &[Op],
     indices: &[u32],
-    transactions: &mut Vec<Indexed>,
-) -> Result<(), NoMemory>
+    transactions: Transactions,
+) -> Result<Transactions, NoMemory>
     requires ops { ops.now ≡ located.now.stand.txn.ops }
     requires few { length ops.now ≤ MAX_OPERATIONS }
     requires indices { AreNumbers first.now.writers.keys indices.now (map op_key ops.now) }
-    ensures transactions { OnOk result (entries_of first.now.writers.keys transactions.new.items ≡ entries_of first.now.writers.keys transactions.old.items
+    ensures transactions { IfOk result (λ more. entries_of first.now.writers.keys more ≡ entries_of first.now.writers.keys transactions
         ++ entries_traced (writers_in first.now.writers) (is_outside rewrites.now) (located.now ∷ [])) }
-    ensures within { OnOk result (All (IsWithin (length first.now.writers.keys)) transactions.old.items → All (IsWithin (length first.now.writers.keys)) transactions.new.items) }
+    ensures within { IfOk result (λ more. All (IsWithin (length first.now.writers.keys)) transactions → All (IsWithin (length first.now.writers.keys)) more) }
 {
-    if located.txn.committed() {
-        let reads = trace(alloc, &first.writers, rewrites, located, ops, indices)?;
-        let keys = first.writers.keys();
-        transactions.push(transaction(alloc, keys, located, ops, indices, reads)?)?;
+    if !located.txn.committed() {
+        return Ok(transactions);
     }
-    Ok(())
+    let reads = trace(alloc, &first.writers, rewrites, located, ops, indices)?;
+    let keys = first.writers.keys();
+    with_transaction(alloc, transactions, keys, located, ops, indices, reads)
 }
 
 /// The initial and the committed transactions, with the reads that can be traced.
@@ -93,12 +94,12 @@ fn trace_all<B: Bounds>(
     rewrites: &BTreeSet<(Name, u64)>,
     snapshot: &SnapshotWithin<B>,
     places: &[Place],
-) -> Result<Vec<Indexed>, NoMemory>
+) -> Result<Transactions, NoMemory>
     requires places { All (IsPlace snapshot.now) places.now }
     requires indices { AreNumbers first.now.writers.keys first.now.indices.items (keys_used (numbered snapshot.now places.now)) }
-    ensures transactions { IfOk result (λ traced. entries_of first.now.writers.keys traced.items
+    ensures transactions { IfOk result (λ traced. entries_of first.now.writers.keys traced
         ≡ initial ∷ entries_traced (writers_in first.now.writers) (is_outside rewrites.now) (numbered snapshot.now places.now)) }
-    ensures within { IfOk result (λ traced. All (IsWithin (length first.now.writers.keys)) traced.items) }
+    ensures within { IfOk result (λ traced. All (IsWithin (length first.now.writers.keys)) traced) }
 {
     let mut transactions = with_initial(alloc)?;
     let mut ops = Vec::new(alloc);
@@ -106,15 +107,7 @@ fn trace_all<B: Bounds>(
     for place in places {
         let located = unpack_txn(snapshot, place, &mut ops)?;
         let (mine, later) = left.split_at(ops.len());
-        trace_one(
-            alloc,
-            first,
-            rewrites,
-            &located,
-            &ops,
-            mine,
-            &mut transactions,
-        )?;
+        transactions = trace_one(alloc, first, rewrites, &located, &ops, mine, transactions)?;
         left = later;
     }
     Ok(transactions)
@@ -130,11 +123,11 @@ fn keep_traced<B: Bounds>(
 ) -> Result<(), NoMemory>
     requires places { All (IsPlace snapshot.now) places.now }
     requires indices { AreNumbers first.now.writers.keys first.now.indices.items (keys_used (numbered snapshot.now places.now)) }
-    requires found { entries_of first.now.writers.keys found.old.transactions.items ≡ initial ∷ entries_found (writers_in first.now.writers) (numbered snapshot.now places.now) }
-    requires within { All (IsWithin (length first.now.writers.keys)) found.old.transactions.items }
-    ensures transactions { OnOk result (entries_of first.now.writers.keys found.new.transactions.items
+    requires found { entries_of first.now.writers.keys found.old.transactions ≡ initial ∷ entries_found (writers_in first.now.writers) (numbered snapshot.now places.now) }
+    requires within { All (IsWithin (length first.now.writers.keys)) found.old.transactions }
+    ensures transactions { OnOk result (entries_of first.now.writers.keys found.new.transactions
         ≡ initial ∷ entries_traced (writers_in first.now.writers) (is_unique found.old.faults.items) (numbered snapshot.now places.now)) }
-    ensures within { OnOk result (All (IsWithin (length first.now.writers.keys)) found.new.transactions.items) }
+    ensures within { OnOk result (All (IsWithin (length first.now.writers.keys)) found.new.transactions) }
     ensures faults { found.new.faults.items ≡ found.old.faults.items }
 {
     let rewrites = rewrites(alloc, &found.faults)?;

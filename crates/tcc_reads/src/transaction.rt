@@ -1,9 +1,9 @@
 //! Transactions of a resolved history by the names of their keys.
 ghost use Rattle.std.specs.Prelude.{◌≡◌, ◌<◌, All, IfOk, length, map};
 ghost use Rattle.tcc_txn.specs.KeyNumbers.{name_at};
-ghost use Rattle.tcc_reads.specs.Indexed.{IsWithin, entry_of, named};
+ghost use Rattle.tcc_reads.specs.Indexed.{IsWithin, entry_of, indexed_of, named};
 
-use crate::Indexed;
+use crate::Transactions;
 use std::alloc::Global;
 use std::marker::Model;
 use tcc_txn::{Name, NoMemory};
@@ -54,20 +54,23 @@ fn named_reads(
 }
 
 impl Transaction {
-    /// The transaction by the names of these keys.
+    /// The transaction of this number by the names of these keys.
     pub(crate) fn of(
         alloc: Global,
         keys: &[Name],
-        indexed: &Indexed,
+        transactions: &Transactions,
+        number: usize,
     ) -> Result<Transaction, NoMemory>
-        requires { IsWithin (length keys.now) indexed.now }
-        ensures { IfOk result (λ transaction. transaction ≡ entry_of keys.now indexed.now) }
+        requires below { number < length transactions.now }
+        requires within { IsWithin (length keys.now) (indexed_of transactions.now number) }
+        ensures { IfOk result (λ transaction. transaction ≡ entry_of keys.now (indexed_of transactions.now number)) }
     {
+        let (owner, place) = transactions.place(number);
         Ok(Transaction {
-            owner: indexed.owner(),
-            place: indexed.place(),
-            writes: names_at(alloc, keys, indexed.writes())?,
-            reads: named_reads(alloc, keys, indexed.reads())?,
+            owner,
+            place,
+            writes: names_at(alloc, keys, transactions.writes(number))?,
+            reads: named_reads(alloc, keys, transactions.reads(number))?,
         })
     }
 

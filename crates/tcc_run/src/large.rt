@@ -3,6 +3,7 @@
 mod certifying;
 mod claims;
 mod explained;
+mod held_graph;
 pub mod laws;
 mod outcome;
 mod room;

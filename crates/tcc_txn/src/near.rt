@@ -1,70 +1,71 @@
-//! A direct-mapped cache of the numbers of names. A slot, picked by a hash of the name, keeps the last number that was put
-//! there. The caller compares the name, so any number is a lawful result. Names that share a slot cost time alone. To ask and
-//! to put take a constant number of steps.
+//! A two-way set-associative cache of the numbers of names. A set, picked by a hash of the name, keeps the last two numbers
+//! that were put there. The caller compares the names, so any numbers are a lawful result. Names that share a set cost time
+//! alone, and only if there are more than two. To ask and to put take a constant number of steps.
 
 use crate::{Name, NoMemory};
 use std::alloc::Global;
 
-/// How many slots there are for each name, so that most names have one of their own.
-const SLOTS_OF_A_NAME: usize = 4;
+/// How many sets there are for each name, so that few names share one with two others.
+const SETS_OF_A_NAME: usize = 2;
 
-/// The least number of slots.
-const LEAST_SLOTS: usize = 64;
+/// The least number of sets.
+const LEAST_SETS: usize = 32;
 
 /// Numbers that names probably have.
 #[derive(Drop)]
 pub struct Nearby {
-    slots: Vec<u32>,
+    /// Of each set the number that was put last, and the one before it.
+    sets: Vec<(u32, u32)>,
 }
 
 impl Nearby {
-    /// No slots: each result is 0.
+    /// No sets: each result is 0.
     pub fn new(alloc: Global) -> Nearby {
         Nearby {
-            slots: Vec::new(alloc),
+            sets: Vec::new(alloc),
         }
     }
 
-    /// The slots for this many names. Each has the number 0.
+    /// The sets for this many names. Each has the number 0 twice.
     pub fn with_room(alloc: Global, count: usize) -> Result<Nearby, NoMemory> {
-        let mut wanted = LEAST_SLOTS;
+        let mut wanted = LEAST_SETS;
         for _ in 0..32u32 {
-            if wanted / SLOTS_OF_A_NAME < count {
+            if wanted / SETS_OF_A_NAME < count {
                 wanted = wanted.saturating_mul(2);
             }
         }
         Ok(Nearby {
-            slots: vec![in alloc; 0u32; wanted]?,
+            sets: vec![in alloc; (0u32, 0u32); wanted]?,
         })
     }
 
-    /// Whether there are slots for this many names.
+    /// Whether there are sets for this many names.
     pub fn has_room(&self, count: usize) -> bool {
-        self.slots.len() / SLOTS_OF_A_NAME >= count
+        self.sets.len() / SETS_OF_A_NAME >= count
     }
 
-    /// The slot of a name.
-    fn slot(&self, name: &Name) -> usize {
-        (name.mixed() >> 32) as usize & self.slots.len().wrapping_sub(1)
+    /// The index of the set of a name.
+    fn set(&self, name: &Name) -> usize {
+        (name.mixed() >> 32) as usize & self.sets.len().wrapping_sub(1)
     }
 
-    /// The number that the name probably has.
-    pub fn number(&self, name: &Name) -> u32 {
-        match self.slots.get(self.slot(name)) {
-            Some(number) => *number,
-            None => 0,
+    /// The numbers that the name probably has, the one that was put last first.
+    pub fn numbers(&self, name: &Name) -> (u32, u32) {
+        match self.sets.get(self.set(name)) {
+            Some(set) => *set,
+            None => (0, 0),
         }
     }
 
-    /// Puts the number of a name into its slot.
+    /// Puts the number of a name into its set.
     pub fn put(&mut self, name: &Name, number: u32) {
-        let at = self.slot(name);
-        if let Some(slot) = self.slots.get_mut(at) {
-            *slot = number;
+        let at = self.set(name);
+        if let Some(set) = self.sets.get_mut(at) {
+            *set = (number, set.0);
         }
     }
 
-    /// The slots for these names, each at its number.
+    /// The sets for these names, each at its number.
     pub fn of(alloc: Global, names: &[Name]) -> Result<Nearby, NoMemory> {
         let mut nearby = Nearby::with_room(alloc, names.len())?;
         let mut number: u32 = 0;

@@ -1,6 +1,6 @@
 //! A symbol table (interning of strings): each name is kept once, and is its number from then on. A look-up asks a cache of
-//! numbers and compares one name. If that is another name, it searches a B-tree, with as many comparisons as the logarithm of
-//! the count.
+//! numbers and compares one name or two. If they are others, it searches a B-tree, with as many comparisons as the logarithm
+//! of the count.
 ghost use Rattle.std.specs.Prelude.{◌≡◌, ◌++◌, ◌∷◌, [], false, IfOk, IfSome, MatchOption, OnErr, OnOk, length};
 ghost use Rattle.tcc_txn.specs.{Nested.IsPrefix, Symbols.IsNumber, Symbols.is_symbol, Symbols.with_symbol};
 
@@ -86,7 +86,11 @@ impl SymbolTable {
     fn near(&self, name: &Name) -> Option<u32>
         ensures { IfSome result (λ n. IsNumber self.now name.now n) }
     {
-        self.checked(name, self.nearby.number(name))
+        let (last, before) = self.nearby.numbers(name);
+        match self.checked(name, last) {
+            Some(number) => Some(number),
+            None => self.checked(name, before),
+        }
     }
 
     /// The number that the map has for a name.

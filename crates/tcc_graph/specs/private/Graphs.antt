@@ -11,11 +11,11 @@ use Rattle.tcc_graph.specs.Keys.{keys}
 use Rattle.tcc_graph.specs.private.Grouped.{of_group}
 use Rattle.tcc_reads.specs.Indexed.{Indexed}
 use Rattle.tcc_graph.specs.private.ReadTables.{over, HasSources, HasReadsInOrder, AreIndexed, IsIndexTable}
-use Rattle.tcc_graph.specs.private.KeyRows.{KeyRow, IsKeyTable}
+use Rattle.tcc_graph.specs.private.KeyRows.{AreReaders, AreWriters}
 
 -- the tables are those of these transactions
-pub record IsGraph (sessions : List (List ℕ)) (entries : List Entry) (names : List (List ℕ)) (indices : List Indexed) (read_indices : List (List (ℕ × ℕ)))
-    (rows : List KeyRow) : Type 0 where
+pub record IsGraph {X : Type 0} (sessions : List (List ℕ)) (entries : List Entry) (names : List (List ℕ)) (indices : List Indexed) (read_indices : List (List (ℕ × ℕ)))
+    (writer_rows : List (List (ℕ × X))) (reader_rows : List (List (ℕ × ℕ))) : Type 0 where
   pub few_sessions : length sessions ≤ LARGE_SESSIONS
   pub some : 0 < length entries
   pub few : length entries ≤ LARGE_COUNT
@@ -27,7 +27,8 @@ pub record IsGraph (sessions : List (List ℕ)) (entries : List Entry) (names : 
   pub sorted : IsStrictlySortedBy (slice_cmp nat_cmp) names
   pub indexed : AreIndexed names entries indices
   pub read_indexed : IsIndexTable (length entries) indices (length entries) read_indices
-  pub rowed : IsKeyTable indices (length names) (length entries) (length entries) rows
+  pub written : AreWriters indices (length names) (length entries) writer_rows
+  pub read : AreReaders indices (length names) reader_rows
 
 -- what a transaction writes, what it reads, and what is read from it, by the names of the keys
 pub record Named : Type 0 where

@@ -1,9 +1,9 @@
 -- What transactions write and read by the indices of the keys, and the table of which read from which.
-use Rattle.std.specs.Prelude.{ℕ, ◌+◌, ◌<◌, ◌≤◌, ◌≡◌, ◌==◌, Bool, true, false, List, [], ◌++◌, length, map, filter, slice_index, slice_index_or, All}
+use Rattle.std.specs.Prelude.{ℕ, ◌<◌, ◌≤◌, ◌≡◌, ◌==◌, Bool, true, false, List, [], ◌++◌, length, map, filter, slice_index_or, All}
 use Rattle.tcc_txn.specs.declared.limits.TheConstants.{LARGE_COUNT}
 use Rattle.std.specs.List.Sorted.{IsStrictlySortedBy}
 use Rattle.tcc_reads.specs.History.{Entry, History, IsBySession, initial}
-use Rattle.tcc_reads.specs.Indexed.{Indexed, entries_of, named}
+use Rattle.tcc_reads.specs.Indexed.{Indexed, entries_of, indexed_of, named}
 use Rattle.tcc_reads.specs.Sources.{pair_cmp}
 use Rattle.tcc_graph.specs.private.Grouped.{as_group, groups}
 use Rattle.tcc_graph.specs.KeyIndices.{name_of}
@@ -13,36 +13,19 @@ use Rattle.tcc_graph.specs.Tables.{row_of}
 abbrev pub values_from : {X : Type 0} → List (X × ℕ) → ℕ → List X
 values_from reads a = map (λ read. read.0) (filter (λ read. read.1 == a) reads)
 
--- each read of a transaction was added at the end of the row of its source
-pub record AddsReads (old : List (List (ℕ × ℕ))) (new : List (List (ℕ × ℕ))) (reader : ℕ) (reads : List (ℕ × ℕ)) : Type 0 where
+-- each value was added at the end of its row, with the number of its group
+pub record AddsValues {X : Type 0} (old : List (List (ℕ × X))) (new : List (List (ℕ × X))) (group : ℕ) (values : List (X × ℕ)) : Type 0 where
   pub long : length new ≡ length old
-  pub rows : (a : ℕ) → row_of new a ≡ row_of old a ++ as_group reader (values_from reads a)
+  pub rows : (a : ℕ) → row_of new a ≡ row_of old a ++ as_group group (values_from values a)
 
--- the row of each of `count` transactions has what the first n transactions read from it, each with its reader
-pub record IsSourceTable (count : ℕ) (reads : ℕ → List (ℕ × ℕ)) (n : ℕ) (table : List (List (ℕ × ℕ))) : Type 0 where
+-- each of `count` rows has its values from the first n lists, each in the group of its list
+pub record IsTableOf {X : Type 0} (count : ℕ) (lists : ℕ → List (X × ℕ)) (n : ℕ) (table : List (List (ℕ × X))) : Type 0 where
   pub long : length table ≡ count
-  pub rows : (a : ℕ) → a < count → row_of table a ≡ groups (λ b. values_from (reads b) a) n
-
--- each count is more by how many of the reads have that source
-pub record CountsReads (old : List ℕ) (new : List ℕ) (reads : List (ℕ × ℕ)) : Type 0 where
-  pub long : length new ≡ length old
-  pub each : (a : ℕ) → a < length old → slice_index new a ≡ slice_index old a + length (values_from reads a)
-
--- of each transaction how often the first n transactions read from it
-pub record AreReadCounts (count : ℕ) (reads : ℕ → List (ℕ × ℕ)) (n : ℕ) (counts : List ℕ) : Type 0 where
-  pub long : length counts ≡ count
-  pub each : (a : ℕ) → a < count → slice_index counts a ≡ length (groups (λ b. values_from (reads b) a) n)
+  pub rows : (a : ℕ) → a < count → row_of table a ≡ groups (λ b. values_from (lists b) a) n
 
 -- the history of these transactions, without sessions: the relations don't need them
 abbrev pub over : List Entry → History
 over entries = record { sessions = []; entries = entries }
-
--- `init`
-abbrev pub unindexed : Indexed
-unindexed = record { owner = 0; place = 0; writes = []; reads = [] }
-
-abbrev pub indexed_of : List Indexed → ℕ → Indexed
-indexed_of indexed n = slice_index_or indexed n unindexed
 
 -- the history of these sessions and transactions
 abbrev pub history_of : List (List ℕ) → List (List ℕ) → List Indexed → History
@@ -73,7 +56,7 @@ pub record AreIndexed (names : List (List ℕ)) (entries : List Entry) (indexed 
 
 -- the row of each transaction has the indices of the keys that the first n transactions read from it, each with its reader
 abbrev pub IsIndexTable : ℕ → List Indexed → ℕ → List (List (ℕ × ℕ)) → Type 0
-IsIndexTable count indexed n table = IsSourceTable count (λ b. (indexed_of indexed b).reads) n table
+IsIndexTable count indexed n table = IsTableOf count (λ b. (indexed_of indexed b).reads) n table
 
 -- each read of a transaction has its source among n transactions
 abbrev pub HasSources : ℕ → Entry → Type 0

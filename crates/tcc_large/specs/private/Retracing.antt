@@ -13,7 +13,7 @@ abbrev pub judged_at : StuckOrder → Judged
 judged_at at = judged at.graph.now at.level
 
 abbrev pub IsStuckAt : StuckOrder → Type 0
-IsStuckAt at = IsStuck (judged_at at) at.stuck.now.kept.items at.stuck.now.placed.items
+IsStuckAt at = IsStuck (judged_at at) at.stuck.now.kept at.stuck.now.placed.items
 
 -- b has to come before a, by a pair or by a derived link
 abbrev pub IsHeldBack : Judged → ℕ → ℕ → Type 0

@@ -10,9 +10,9 @@ use crate::finder::trimming::Trimmed;
 use crate::finder::two_step_back_links::{between, closings};
 use crate::finder::work::{SearchError, Work, unless_spent};
 use std::alloc::{AllocError, Global};
-use tcc_bits::Row;
 use tcc_graph::{LargeGraph, Level, Link};
 use tcc_order::Stuck;
+use tcc_reads::FlatRows;
 use tcc_txn::NoMemory;
 
 /// At most this many links of each kind are tried.
@@ -72,9 +72,9 @@ fn is_tried(index: usize, count: usize) -> bool {
 }
 
 /// Whether any link was kept.
-fn has_links(kept: &[Row<u32>]) -> bool {
-    for row in kept {
-        if !row.as_slice().is_empty() {
+fn has_links(kept: &FlatRows<u32>) -> bool {
+    for to in 0..kept.len() {
+        if !kept.row(to).is_empty() {
             return true;
         }
     }
@@ -332,7 +332,8 @@ impl<'a> Finder<'a> {
 
     /// Cycles of pairs.
     fn by_pairs(&mut self, alloc: Global, placed: &[u64]) -> Result<(), NoMemory> {
-        let adjacency = Adjacency::of(alloc, self.pairs, &[])?;
+        let none = FlatRows::new(alloc);
+        let adjacency = Adjacency::of(alloc, self.pairs, &none)?;
         let among = Trimmed::of(alloc, &adjacency, placed)?;
         let reads = among.reads(alloc)?;
         self.allow();

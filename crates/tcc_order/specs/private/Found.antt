@@ -8,4 +8,4 @@ use Rattle.tcc_order.specs.declared.commit_order.Links.TheVariants as links
 -- links of the level that are kept, or causal pairs alone make a cycle
 abbrev pub AreFound : Judged → Links → Type 0
 AreFound j (links.Kept kept) = AreLinks j kept
-AreFound j (links.Circle stuck) = IsStuck j stuck.kept.items stuck.placed.items
+AreFound j (links.Circle stuck) = IsStuck j stuck.kept stuck.placed.items

@@ -7,7 +7,7 @@ use Rattle.tcc_clocks.specs.Needed.{AreNeeded}
 use Rattle.tcc_clocks.specs.Parents.{AreSteps}
 use Rattle.tcc_clocks.specs.declared.latest.TheConstants.{WIDE}
 use Rattle.tcc_order.specs.private.CausalLinks.{AreLinksFrom}
-use Rattle.tcc_order.specs.declared.causal_links.Sweep.{Sweep}
+use Rattle.tcc_order.specs.declared.sweep.Sweep.{Sweep}
 use Rattle.tcc_order.specs.declared.shares.Shares.{Shares}
 
 -- a row for each transaction
@@ -17,11 +17,11 @@ Links = List (List ℕ)
 -- each part of it is what its name says
 pub record IsSweep (s : Sweep) : Type 0 where
   pub numbered : IsBySession s.graph.now.entries
-  pub owners : AreOwners s.graph.now s.owners.now
+  pub owners : AreOwners s.graph.now s.owners.items
   pub numbering : IsNumbering (count s.graph.now) s.order.now
   pub onward : LeadsOnward s.graph.now s.order.now
-  pub steps : AreSteps s.graph.now s.order.now s.steps.now.spans.items s.steps.now.numbers.items (length s.order.now)
-  pub needed : AreNeeded s.graph.now s.needed.now
+  pub steps : AreSteps s.graph.now s.order.now s.steps.spans.items s.steps.numbers.items (length s.order.now)
+  pub needed : AreNeeded s.graph.now s.needed.items
 
 -- the block at which a share begins
 abbrev pub start_of : Shares → ℕ → ℕ

@@ -1,11 +1,11 @@
 -- What the resolver finds out about the operations, in terms of its table of first writes. Proofs show that this is what
 -- Faults and Sources say.
-use Rattle.std.specs.Prelude.{ℕ, ◌≡◌, ◌<◌, ◌≤◌, nat_lt, slice_index_or, true, false, Bool, ◌&&◌, ◌==◌, not, if◌then◌else◌, List, []}
+use Rattle.std.specs.Prelude.{ℕ, ◌≡◌, ◌<◌, slice_index_or, Bool, ◌&&◌, ◌==◌, not, if◌then◌else◌, List, []}
 use Rattle.std.specs.Prelude.{◌∷◌, ◌++◌, map, filter, filter_map, flat_map, find, length, ◌+◌, Option, None, Some}
 use Rattle.std.specs.Prelude.{option_map}
 use Rattle.std.specs.Option.{option_and_then}
 use Rattle.std.specs.List.{list_any, AllAdjacentBelow}
-use Rattle.std.specs.List.Sorted.{IsPartitionPoint}
+use Rattle.std.specs.List.Sorted.{IsPermutation, IsSorted, IsStable}
 use Rattle.std.specs.Ordering.{nat_cmp, ordering_then}
 use Rattle.std.specs.declared.cmp.Ordering.{Ordering}
 use Rattle.std.specs.declared.cmp.Ordering.TheVariants.{Less}
@@ -54,10 +54,10 @@ first_writer (n ∷ later) x v = first_in n [] n.stand.txn.ops x v (first_writer
 abbrev pub Writes : Type 0
 Writes = List ℕ → ℕ → Option Writer
 
--- keys, and writes at them: a write has the index of its key
+-- keys, and of each a row with its writes
 pub record Table : Type 0 where
   pub keys : List (List ℕ)
-  pub writes : List Write
+  pub rows : List (List Write)
 
 -- whether a write is of this value at the key of this index
 abbrev pub is_of : ℕ → ℕ → Write → Bool
@@ -67,9 +67,13 @@ is_of k v write = (write.key == k) && (write.value == v)
 abbrev pub writer_of : List Write → ℕ → ℕ → Option Writer
 writer_of writes k v = option_map (λ write. write.writer) (find (is_of k v) writes)
 
+-- a row of writes
+abbrev pub row_at : List (List Write) → ℕ → List Write
+row_at rows k = slice_index_or rows k []
+
 -- the writers in a table
 abbrev pub writers_in : Table → Writes
-writers_in table x v = option_and_then (λ k. writer_of table.writes k v) (index_of table.keys x)
+writers_in table x v = option_and_then (λ k. writer_of (row_at table.rows k) k v) (index_of table.keys x)
 
 -- the order of a write and of a write of this value at the key of this index: by key, then by value
 abbrev pub spot_cmp : Write → ℕ → ℕ → Ordering
@@ -82,17 +86,34 @@ write_cmp one other = spot_cmp one other.key other.value
 abbrev pub AreApart : List Write → Type 0
 AreApart writes = AllAdjacentBelow (λ one other. write_cmp one other ≡ Less) writes (length writes)
 
--- whether a write is of a lower key
-abbrev pub is_below : ℕ → Write → Bool
-is_below k write = nat_lt write.key k
+-- each write has one of so many keys
+abbrev pub IsWithin : ℕ → Write → Type 0
+IsWithin count write = write.key < count
 
--- sorted writes of lower keys are before this index, and no others
-abbrev pub IsStart : List Write → ℕ → ℕ → Type 0
-IsStart writes k i = (i ≤ length writes) × IsPartitionPoint (λ write. is_below k write ≡ true) (λ write. is_below k write ≡ false) writes i
+-- the writes of the key of an index
+abbrev pub of_key : ℕ → List Write → List Write
+of_key k writes = filter (λ write. write.key == k) writes
 
--- where the writes of each key begin
-abbrev pub AreStarts : List ℕ → List Write → Type 0
-AreStarts starts writes = (k : ℕ) → k < length starts → IsStart writes k (slice_index_or starts k 0)
+-- how many of the writes each of so many keys has
+pub record AreCounts (count : ℕ) (writes : List Write) (counts : List ℕ) : Type 0 where
+  pub long : length counts ≡ count
+  pub each : (k : ℕ) → k < count → slice_index_or counts k 0 ≡ length (of_key k writes)
+
+-- a row for each of so many keys, with the writes of the key
+pub record AreByKey (count : ℕ) (writes : List Write) (rows : List (List Write)) : Type 0 where
+  pub long : length rows ≡ count
+  pub each : (k : ℕ) → k < count → row_at rows k ≡ of_key k writes
+
+-- the writes in order by key and value; those of one value at one key keep theirs
+pub record SortsWrites (old new : List Write) : Type 0 where
+  pub sorted : IsSorted write_cmp new
+  pub stable : IsStable write_cmp old new
+  pub permutation : IsPermutation old new
+
+-- the writes of each row in order
+pub record SortsRows (old new : List (List Write)) : Type 0 where
+  pub long : length new ≡ length old
+  pub each : (k : ℕ) → k < length old → SortsWrites (row_at old k) (row_at new k)
 
 -- the writes of a transaction among these operations, in order
 abbrev pub writes_from : List (List ℕ) → Numbered → List Op → List Op → List Write

@@ -8,6 +8,7 @@ ghost use Rattle.tcc_run.specs.private.LargeStages.{IsBareOf, IsCertifiable, IsF
 
 use crate::bare::{bare_answer, cycle_answer, order_answer};
 use crate::large::claims::cycle_claim;
+use crate::large::held_graph::HeldGraph;
 use crate::large::room::has_order_room;
 use std::alloc::Global;
 use std::io::Write;
@@ -33,12 +34,12 @@ pub(crate) enum LargeOutcome {
     Tabled(Answer),
     /// Within them, where none is wanted: its graph, whose history has the tables, and its first answer without them.
     Bare {
-        graph: LargeGraph,
+        graph: HeldGraph,
         answer: Answer,
     },
     /// Above them: its graph, its first answer, without the tables of a small one, and what its certificate claims.
     Large {
-        graph: LargeGraph,
+        graph: HeldGraph,
         answer: Answer,
         claim: LargeCertificate,
     },
@@ -69,7 +70,11 @@ impl LargeOutcome {
         ensures { IsFirst (judged graph level) first → IfOk result (IsBareOf level graph) }
     {
         let answer = bare_answer(alloc, &graph, level, first)?;
-        Ok(LargeOutcome::Bare { graph, answer })
+        let held = HeldGraph::new(alloc, graph)?;
+        Ok(LargeOutcome::Bare {
+            graph: held,
+            answer,
+        })
     }
 
     /// What is said about a history by its first commit order.
@@ -87,8 +92,9 @@ impl LargeOutcome {
         let claim = LargeCertificate::Order(order_claim(alloc, &graph, level, &order)?);
         let labels = Labels::of_large(alloc, &graph)?;
         let answer = order_answer(alloc, &graph, level, order, labels);
+        let held = HeldGraph::new(alloc, graph)?;
         Ok(LargeOutcome::Large {
-            graph,
+            graph: held,
             answer,
             claim,
         })
@@ -107,8 +113,9 @@ impl LargeOutcome {
         let claim = LargeCertificate::Cycle(cycle_claim(alloc, &graph, level, &links, order)?);
         let labels = Labels::of_large(alloc, &graph)?;
         let answer = cycle_answer(alloc, level, links, labels)?;
+        let held = HeldGraph::new(alloc, graph)?;
         Ok(LargeOutcome::Large {
-            graph,
+            graph: held,
             answer,
             claim,
         })

@@ -88,8 +88,8 @@ pub(crate) fn slice_text(
         → IfOk result (λ made. IsSliceMade level snapshot.now links.now (option_map (λ text. text.items) made)) }
 {
     match outcome {
-        LargeOutcome::Bare { graph, .. } => text_of(alloc, snapshot, graph, level, links),
-        LargeOutcome::Large { graph, .. } => text_of(alloc, snapshot, graph, level, links),
+        LargeOutcome::Bare { graph, .. } => text_of(alloc, snapshot, graph.get(), level, links),
+        LargeOutcome::Large { graph, .. } => text_of(alloc, snapshot, graph.get(), level, links),
         LargeOutcome::Tabled(_) | LargeOutcome::Unresolved(_) => text_anew(
             alloc, snapshot, level, links,
         ),

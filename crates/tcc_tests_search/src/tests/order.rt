@@ -96,8 +96,8 @@ fn assert_stuck(
         panic!(rt; "there is an order of {records}");
     };
     assert!(rt; stuck.kept.len() == kept.len(), "of {records}");
-    for (row, wanted) in stuck.kept.iter().zip(kept.iter()) {
-        assert!(rt; row.as_slice() == *wanted, "of {records}");
+    for (number, wanted) in kept.iter().enumerate() {
+        assert!(rt; stuck.kept.row(number) == *wanted, "of {records}");
     }
     assert!(rt;
         stuck.placed.as_slice() == [placed].as_slice(),
@@ -174,8 +174,9 @@ fn assert_same(
                 "by {count}"
             );
             assert!(rt; stuck.kept.len() == other.kept.len(), "by {count}");
-            for (row, same) in stuck.kept.iter().zip(other.kept.iter()) {
-                assert!(rt; row.as_slice() == same.as_slice(), "by {count}");
+            for number in 0..stuck.kept.len() {
+                let same = other.kept.row(number);
+                assert!(rt; stuck.kept.row(number) == same, "by {count}");
             }
         }
         _ => panic!(rt; "another answer by {count}"),

@@ -1,4 +1,4 @@
-use Rattle.std.proofs.Common.{ℕ, ◌<◌, ◌≤◌, ◌≡◌, List, [], length, ◌∙◌, arith}
+use Rattle.std.proofs.Common.{ℕ, ◌<◌, ◌≤◌, ◌≡◌, List, [], length, refl, ◌∙◌, arith}
 use Rattle.rayon.proofs.ToStd.{nat_range-All}
 use Rattle.tcc_reads.specs.History.{count}
 use Rattle.tcc_txn.specs.declared.limits.TheConstants.{MAX_COUNT}
@@ -33,14 +33,20 @@ collect-requires-clause-ready g c κs within =
 pub returns : goal.returns
 returns g c =
     let got = c.in_ok-collect.ensures in
-    let chain = rw (c.with_min_len.ensures.base, c.map.ensures.base, c.map.ensures.f) at got.1 in
+    let chain = got.1 in
     let n = c.count.result in
-    let numbers = chain.1 ∙ numbers_below _ _ n c.into_par_iter.ensures.0 c.into_par_iter.ensures.1 in
+    let f = c.with_min_len.result.base.f in
+    let starts : c.with_min_len.result.base.base.start ≡ 0 = rw (c.with_min_len.ensures.base, c.map.ensures.base) c.into_par_iter.ensures.0 in
+    let ends : c.with_min_len.result.base.base.end ≡ n = rw (c.with_min_len.ensures.base, c.map.ensures.base) c.into_par_iter.ensures.1 in
+    let numbers = chain.1 ∙ numbers_below _ _ n starts ends in
+    let near : f.0 ≡ c.args.near = rw (c.with_min_len.ensures.base, c.map.ensures.f) refl in
+    let graph : f.2 ≡ c.args.graph = rw (c.with_min_len.ensures.base, c.map.ensures.f) refl in
+    let prices : f.3 ≡ c.args.prices = rw (c.with_min_len.ensures.base, c.map.ensures.f) refl in
     let IsRow : ℕ → List (ℕ × ℕ) → Type 0 =
-    λ u row. IsOtherRow c.args.graph.now u (row_of c.args.near.now.rows u) (row_of c.args.prices.now u) row in
+    λ u row. IsOtherRow f.2.now u (row_of f.0.now.rows u) (row_of f.3.now u) row in
     matched c.in_ok-collect.field-0 _ _ _ got.2 (λ rows made.
     let each = each_given NoMemory IsRow n chain.0 got.0 rows.items numbers chain.2 made in
     record {
       long = each.0 ∙ c.count.ensures.value;
-      each = λ u from. each.1 u [] (omega (arith, c.count.ensures.value));
+      each = λ u from. rw (← near, ← graph, ← prices) (each.1 u [] (omega (arith, c.count.ensures.value)));
     })

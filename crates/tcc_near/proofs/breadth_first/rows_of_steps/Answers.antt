@@ -1,4 +1,4 @@
-use Rattle.std.proofs.Common.{◌<◌, [], ◌∙◌, arith}
+use Rattle.std.proofs.Common.{◌≡◌, ◌<◌, [], ◌∙◌, refl, arith}
 use Rattle.rayon.proofs.ToStd.{nat_range-All}
 use Rattle.std.specs.declared.alloc.AllocError.{AllocError}
 use Rattle.tcc_reads.specs.History.{count}
@@ -20,9 +20,13 @@ pub returns : goal.returns
 returns g c =
     let n = c.count.result in
     let gave = c.in_ok-collect.ensures in
-    let chain = rw (c.with_min_len.ensures.base, c.map.ensures.base, c.map.ensures.f) at gave.1 in
-    let numbers = chain.1 ∙ numbers_below _ _ n c.into_par_iter.ensures.0 c.into_par_iter.ensures.1 in
+    let chain = gave.1 in
+    let f = c.with_min_len.result.base.f in
+    let starts : c.with_min_len.result.base.base.start ≡ 0 = rw (c.with_min_len.ensures.base, c.map.ensures.base) c.into_par_iter.ensures.0 in
+    let ends : c.with_min_len.result.base.base.end ≡ n = rw (c.with_min_len.ensures.base, c.map.ensures.base) c.into_par_iter.ensures.1 in
+    let numbers = chain.1 ∙ numbers_below _ _ n starts ends in
+    let pairs : f.1 ≡ c.args.pairs = rw (c.with_min_len.ensures.base, c.map.ensures.f) refl in
     matched c.in_ok-collect.field-0 _ _ _ gave.2 (λ v made.
     let each =
-    each_given AllocError (HasLengths (atomically c.args.pairs.now.history)) n chain.0 gave.0 v.items numbers chain.2 made in
-    record { long = each.0 ∙ c.count.ensures; each = λ a l. each.1 a [] (omega (arith, l, c.count.ensures)) })
+    each_given AllocError (HasLengths (atomically f.1.now.history)) n chain.0 gave.0 v.items numbers chain.2 made in
+    record { long = each.0 ∙ c.count.ensures; each = λ a l. rw (← pairs) (each.1 a [] (omega (arith, l, c.count.ensures))) })

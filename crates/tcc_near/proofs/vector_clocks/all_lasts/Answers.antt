@@ -1,4 +1,4 @@
-use Rattle.std.proofs.Common.{[], length, rules, ◌∙◌}
+use Rattle.std.proofs.Common.{◌≡◌, [], length, refl, rules, ◌∙◌}
 use Rattle.std.specs.declared.alloc.AllocError.{AllocError}
 use Rattle.tcc_near.specs.private.ClockRows.{AreLasts}
 use Rattle.tcc_near.proofs.RowLemmas.{each_given, numbers_below}
@@ -12,11 +12,14 @@ collect-requires-clause-ready g c κs within =
 
 pub returns : goal.returns
 returns g c =
-    let h = c.args.graph.now in
+    let n = length c.args.graph.now.sessions in
     let gave = c.in_ok-collect.ensures in
-    let chain = rw (c.map.ensures.base, c.map.ensures.f) at gave.1 in
-    let n = length h.sessions in
-    let numbers = chain.1 ∙ numbers_below _ _ n c.into_par_iter.ensures.0 (c.into_par_iter.ensures.1 ∙ search rules) in
+    let chain = gave.1 in
+    let f = c.map.result.f in
+    let starts : c.map.result.base.start ≡ 0 = rw c.map.ensures.base c.into_par_iter.ensures.0 in
+    let ends : c.map.result.base.end ≡ n = rw c.map.ensures.base (c.into_par_iter.ensures.1 ∙ search rules) in
+    let numbers = chain.1 ∙ numbers_below _ _ n starts ends in
+    let graph : f.1 ≡ c.args.graph = rw c.map.ensures.f refl in
     matched c.in_ok-collect.field-0 _ _ _ gave.2 (λ v made.
-    let given = each_given AllocError (AreLasts h) n chain.0 gave.0 v.items numbers chain.2 made in
-    record { long = given.0; each = λ session of. given.1 session [] of })
+    let given = each_given AllocError (AreLasts f.1.now) n chain.0 gave.0 v.items numbers chain.2 made in
+    record { long = given.0; each = λ session of. rw (← graph) (given.1 session [] of) })

@@ -41,40 +41,44 @@ keep-requires-clause-long c =
 pub keep-requires-clause-runs : goal.keep-requires-clause-runs
 keep-requires-clause-runs c = c.begin_session.ensures.same ∙ (c.loop-a.invariant.1 ∙ sym c.needed.ensures.wide)
 
--- the run at the next transaction
+-- the next transaction is one of the history, and has a row
+here : (c : After-begin_session) → (c.loop-a.a < count c.args.graph.now) × (c.loop-a.a < length c.args.kept.now)
+here c =
+    let low : c.loop-a.a < count c.args.graph.now = search rules in
+    (low, omega (arith, low, c.requires.long))
+
+-- the run there
 runs_here : (c : After-begin_session) → AreRuns c.args.graph.now (renewed c.loop-a.more c.args.kept.now c.loop-a.a) c.args.from c.loop-a.a (owner c.args.graph.now c.loop-a.a) c.begin_session.new.run
 runs_here c =
-    let h = c.args.graph.now in
     let a = c.loop-a.a in
-    let low : a < count h = search rules in
     let inv = c.loop-a.invariant in
-    runs_begun h c.requires.numbered (renewed c.loop-a.more c.args.kept.now a) c.args.from a c.args.owners.now c.requires.owners low c.loop-a.run c.begin_session.new.run
-    (c.begin_session.ensures.same ∙ inv.1) inv.5 c.begin_session.ensures.begun
+    runs_begun c.args.graph.now c.requires.numbered (renewed c.loop-a.more c.args.kept.now a) c.args.from a c.args.owners.now c.requires.owners (here c).0 c.loop-a.run
+    c.begin_session.new.run (c.begin_session.ensures.same ∙ inv.1) inv.5 c.begin_session.ensures.begun
 
 pub loop-a-preserved-then-not-has_more : goal.loop-a-preserved-then-not-has_more
 loop-a-preserved-then-not-has_more c =
+    let begun = (goal.at.loop-a-preserved-then-not-has_more c).After-begin_session in
     let h = c.args.graph.now in
     let numbered = c.requires.numbered in
-    let from = c.args.from in
     let old = c.args.kept.now in
+    let more = c.loop-a.more in
     let a = c.loop-a.a in
     let inv = c.loop-a.invariant in
-    let low : a < count h = search rules in
-    let inside : a < length old = omega (arith, low, c.requires.long) in
-    let pushed : c.push.new.self ≡ c.loop-a.more ++ row_of old a ∷ [] = rw c.row-before.ensures at c.in_ok-push.ensures in
-    rw (pushed, renewed_same c.loop-a.more old a inv.2 inside) (
+    let pushed : c.push.new.self ≡ more ++ row_of old a ∷ [] = rw c.row-before.ensures at c.in_ok-push.ensures in
+    rw (pushed, renewed_same more old a inv.2 (here begun).1) (
       inv.0,
       c.begin_session.ensures.same ∙ inv.1,
-      omega (arith, length_push c.loop-a.more (row_of old a), inv.2),
+      omega (arith, length_push more (row_of old a), inv.2),
       inv.3,
-      none_more h numbered c.args.owners.now c.requires.owners from a low c.args.table.now c.requires.clocks c.args.readings.now c.requires.readings
-          (c.has_more.ensures c.if-not-has_more.true) (renewed c.loop-a.more old a) inv.4,
-      runs_passed h numbered (renewed c.loop-a.more old a) from a c.begin_session.new.run (runs_here (goal.at.loop-a-preserved-then-not-has_more c).After-begin_session),
+      none_more h numbered c.args.owners.now c.requires.owners c.args.from a (here begun).0 c.args.table.now c.requires.clocks c.args.readings.now c.requires.readings
+          (c.has_more.ensures c.if-not-has_more.true) (renewed more old a) inv.4,
+      runs_passed h numbered (renewed more old a) c.args.from a c.begin_session.new.run (runs_here begun),
       inv.6,
     )
 
 pub loop-a-preserved : goal.loop-a-preserved
 loop-a-preserved c =
+    let begun = (goal.at.loop-a-preserved c).After-begin_session in
     let h = c.args.graph.now in
     let numbered = c.requires.numbered in
     let from = c.args.from in
@@ -82,12 +86,12 @@ loop-a-preserved c =
     let a = c.loop-a.a in
     let inv = c.loop-a.invariant in
     let kept = renewed c.loop-a.more old a in
-    let low : a < count h = search rules in
-    let inside : a < length old = omega (arith, low, c.requires.long) in
+    let low = (here begun).0 in
+    let inside = (here begun).1 in
     let all : length kept ≡ count h = renewed_long c.loop-a.more old a inv.2 inside ∙ c.requires.long in
     let clock = row_of c.args.table.now a in
     let run = c.begin_session.new.run in
-    let runs : AreRuns h kept from a (owner h a) run = runs_here (goal.at.loop-a-preserved c).After-begin_session in
+    let runs : AreRuns h kept from a (owner h a) run = runs_here begun in
     let need = c.needed.new.need in
     let new = c.keep.new.kept.items in
     let after = c.keep.new.run in

@@ -21,11 +21,11 @@ pub loop-block-preserved-then-not-is_needed : goal.loop-block-preserved-then-not
 loop-block-preserved-then-not-is_needed c =
     let h = c.args.sweep.now.graph.now in
     let inv = c.loop-block.invariant in
-    let unmarked : get_or c.args.sweep.now.needed.now c.loop-block.block false ≡ false = c.is_needed.ensures c.if-not-is_needed.true in (
+    let unmarked : get_or c.args.sweep.now.needed.items c.loop-block.block false ≡ false = rw c.deref.ensures.value at (c.is_needed.ensures c.if-not-is_needed.true) in (
       inv.0,
       inv.1,
       inv.2,
-      block_passed h c.loop-block.kept c.args.sweep.now.needed.now c.requires.needed c.args.first c.loop-block.block unmarked inv.3,
+      block_passed h c.loop-block.kept c.args.sweep.now.needed.items c.requires.needed c.args.first c.loop-block.block unmarked inv.3,
       inv.4,
       inv.5,
     )

@@ -21,11 +21,10 @@ causal_links_by-requires-clause-onward g c κs within =
     let first : IsFirstOf (holds h none) (count h) order = rw c.in-Order.is at c.in_ok-order.ensures in
     rw c.deref.ensures.value (pairs_first h c.requires.numbered none order first.is_order)
 
-pub returns : goal.returns
-returns g c =
+pub returns-in-Stuck : goal.returns-in-Stuck
+returns-in-Stuck g c =
     let h = c.args.graph.now in
     let none = c.in_ok-none.none in
     let placed = c.in-Stuck.placed.items in
     let stuck : IsStuckBy (holds h none) (count h) placed = rw c.in-Stuck.is at c.in_ok-order.ensures in
-    rw c.in_ok-kept-in-Stuck.ensures
-    (stuck_of (causally h) none (c.in_ok-none.ensures.long ∙ c.count.ensures.value) (none_derived (Derives (causally h)) none c.in_ok-none.ensures.none) placed stuck)
+    stuck_of (causally h) none (c.in_ok-none.ensures.long ∙ c.count.ensures.value) (none_derived (Derives (causally h)) none c.in_ok-none.ensures.none) placed stuck

@@ -7,5 +7,5 @@ pub returns-in-Stuck : goal.returns-in-Stuck
 returns-in-Stuck c =
     let j = judged c.args.graph.now c.args.level in
     let stuck = c.in-Stuck._stuck in
-    let is : IsStuck j stuck.kept.items stuck.placed.items = rw c.in-Stuck.is at c.in_ok-order.ensures in
-    stuck_cycle j stuck.kept.items c.numbered.ensures.numbered stuck.placed.items is
+    let is : IsStuck j stuck.kept stuck.placed.items = rw c.in-Stuck.is at c.in_ok-order.ensures in
+    stuck_cycle j stuck.kept c.numbered.ensures.numbered stuck.placed.items is

@@ -1,4 +1,3 @@
-use Rattle.std.proofs.Common.{◌∙◌, sym}
 use Rattle.tcc_reads.specs.History.{count}
 use Rattle.tcc_graph.specs.Levels.{Judged, judged}
 use Rattle.tcc_order.specs.private.Held.{holds}
@@ -15,11 +14,6 @@ first_placing-requires-clause-inside c =
     let links : AreLinks j c.in-Kept.kept = rw c.in-Kept.is at c.requires.links in
     λ x b there. (links.derived x b there).1
 
-pub rows_apart-requires : goal.rows_apart-requires
-rows_apart-requires c =
-    let links : AreLinks (judged c.args.graph.now c.args.level) c.in-Kept.kept = rw c.in-Kept.is at c.requires.links in
-    links.long ∙ sym c.count.ensures.value
-
 pub returns-in-Order : goal.returns-in-Order
 returns-in-Order c =
     let h = c.args.graph.now in
@@ -29,11 +23,11 @@ returns-in-Order c =
     let first : IsFirstOf (holds h kept) (count h) c.in-Order.order.items = rw c.in-Order.is at c.in_ok-order.ensures in
     first_kept j c.requires.numbered kept links c.in-Order.order.items first
 
-pub returns : goal.returns
-returns c =
+pub returns-in-Stuck : goal.returns-in-Stuck
+returns-in-Stuck c =
     let h = c.args.graph.now in
     let j : Judged = judged h c.args.level in
     let kept = c.in-Kept.kept in
     let links : AreLinks j kept = rw c.in-Kept.is at c.requires.links in
     let stuck : IsStuckBy (holds h kept) (count h) c.in-Stuck.placed.items = rw c.in-Stuck.is at c.in_ok-order.ensures in
-    rw c.in_ok-kept-in-Stuck.ensures (stuck_of j kept links.long links.derived c.in-Stuck.placed.items stuck)
+    stuck_of j kept links.long links.derived c.in-Stuck.placed.items stuck

@@ -1,4 +1,4 @@
-use Rattle.std.proofs.Common.{replicate, rules, ◌≡◌, ◌<◌, ◌==◌, ◌||◌, ◌∷◌, ◌++◌, ◌↔◌, ◌⊎◌, ℕ, true, false, [], length, length-append, sym, arith, take_at, ◌∙◌, refl}
+use Rattle.std.proofs.Common.{replicate, rules, ◌≡◌, ◌<◌, ◌==◌, ◌||◌, ◌∷◌, ◌++◌, ◌⊎◌, ℕ, true, false, [], length, length-append, sym, arith, take_at, ◌∙◌, refl}
 use Rattle.std.specs.Prelude.{Contains}
 use Rattle.std.proofs.lemmas.Bool.{false≢true}
 use Rattle.std.proofs.lemmas.List.{length-replicate}
@@ -95,8 +95,7 @@ loop-preserved c =
     let pushed : c.push.new.self.items ≡ order ++ next ∷ [] = search rules in
     let same : length marks ≡ length placed = rw c.deref_mut.ensures.value at c.mark.ensures.same in
     let long : c.loop.placed.len ≡ length placed = search rules in
-    let wake : (y : ℕ) → Contains woken y ↔ ((Contains [] y ⊎ Contains (row_of waiting next) y) ⊎ (y ≡ onward ps next))
-    = rw c.in_ok-look_at_woken.ensures.none at c.in_ok-wake.ensures in
+    let wake : woken ≡ row_of waiting next ++ onward ps next ∷ [] = rw c.in_ok-look_at_woken.ensures.none at c.in_ok-wake.ensures in
     let is_next : IsNext held (count h) order next = record {
       free = free_placed held (count h) placed order inv.2 next free;
       least = λ y l f. least y l (placed_free held (count h) placed order inv.2 y f);

@@ -11,9 +11,9 @@ abbrev pub invariant-loop-position : goal.invariant-loop-position
 invariant-loop-position l =
     (length l.rows ≡ length l.initial.rows)
     × (length l.last ≡ length l.initial.last)
-    × ((a : ℕ) → AreReadingsOf l.graph a (row_of l.rows a))
-    × AreNoted l.graph l.from (Contains (take l.position l.order)) l.last
-    × ArePassed l.graph l.from l.table l.order l.rows l.position
+    × ((a : ℕ) → AreReadingsOf l.block.graph.now a (row_of l.rows a))
+    × AreNoted l.block.graph.now l.block.from (Contains (take l.position l.order)) l.last
+    × ArePassed l.block.graph.now l.block.from l.table l.order l.rows l.position
     × (length l.heads ≡ length l.initial.heads)
-    × HaveHeads l.graph l.from l.floor (Contains (take l.position l.order)) l.heads
-    × HasEntries Past l.graph l.from (Contains (take l.position l.order)) l.table
+    × HaveHeads l.block.graph.now l.block.from l.block.floor (Contains (take l.position l.order)) l.heads
+    × HasEntries Past l.block.graph.now l.block.from (Contains (take l.position l.order)) l.table

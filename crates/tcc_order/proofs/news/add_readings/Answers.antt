@@ -13,9 +13,9 @@ loop-read-init c = (refl, (λ a reading there. there), c.requires.sound, λ j l.
 
 pub loop-read-preserved : goal.loop-read-preserved
 loop-read-preserved c =
-    let h = c.args.graph.now in
+    let h = c.args.block.now.graph.now in
     let table = c.args.table.now in
-    let from = c.args.from in
+    let from = c.args.block.now.from in
     let reads = c.reads_at-read-items.result.now in
     let old = c.loop-read.rows in
     let n = c.loop-read.read-index in
@@ -54,7 +54,7 @@ returns-clause-sound c = c.loop-read.invariant.2
 pub returns-clause-told : goal.returns-clause-told
 returns-clause-told c =
     let reads = c.reads_at-read-items.result.now in
-    told_all c.args.graph.now c.args.from c.args.table.now c.args.c reads c.loop-read.rows c.reads_at-read-items.ensures.value
+    told_all c.args.block.now.graph.now c.args.block.now.from c.args.table.now c.args.c reads c.loop-read.rows c.reads_at-read-items.ensures.value
     (λ j l. c.loop-read.invariant.3 j (omega (arith, l, c.loop-read-test.false)))
 
 pub are_sources_same-requires-clause-inside : goal.are_sources_same-requires-clause-inside
@@ -63,7 +63,7 @@ are_sources_same-requires-clause-inside c = rw c.requires.table c.requires.insid
 pub returns-then-are_sources_same-clause-told : goal.returns-then-are_sources_same-clause-told
 returns-then-are_sources_same-clause-told c = λ a x pair.
     inr
-    (told_alike c.args.graph.now c.requires.numbered c.args.owners.now c.requires.owners c.args.from c.args.floor c.requires.floor c.args.table.now
+    (told_alike c.args.block.now.graph.now c.requires.block.numbered c.args.block.now.owners.now c.requires.block.owners c.args.block.now.from c.args.block.now.floor c.requires.block.floor c.args.table.now
     c.args.c c.requires.clock c.args.found.now c.requires.found c.requires.clocks (c.are_sources_same.ensures.some c.if-are_sources_same.true)
     (c.are_sources_same.ensures.same c.if-are_sources_same.true) a x pair)
 
@@ -71,6 +71,6 @@ pub may_tell-requires-clause-source_clock : goal.may_tell-requires-clause-source
 may_tell-requires-clause-source_clock c =
     let reads = c.reads_at-read-items.result.now in
     let n = c.loop-read.read-index in
-    source_clock c.args.graph.now c.args.from c.args.table.now c.args.c c.args.found.now c.requires.found c.requires.clocks (get_or reads n (0, 0)).1
-    (key_at c.args.graph.now (get_or reads n (0, 0)).0)
-    (read_sound c.args.graph.now c.args.c c.requires.reader reads c.reads_at-read-items.ensures.value c.reads_at-read-items.ensures.within n c.loop-read-test.true).1
+    source_clock c.args.block.now.graph.now c.args.block.now.from c.args.table.now c.args.c c.args.found.now c.requires.found c.requires.clocks (get_or reads n (0, 0)).1
+    (key_at c.args.block.now.graph.now (get_or reads n (0, 0)).0)
+    (read_sound c.args.block.now.graph.now c.args.c c.requires.reader reads c.reads_at-read-items.ensures.value c.reads_at-read-items.ensures.within n c.loop-read-test.true).1

@@ -8,5 +8,5 @@ abbrev pub invariant-loop-read : goal.invariant-loop-read
 invariant-loop-read l =
     (length l.rows ≡ length l.initial.rows)
     × AreWider l.initial.rows l.rows
-    × ((a : ℕ) → AreReadingsOf l.graph a (row_of l.rows a))
-    × AreTold l.graph l.from l.table l.c l.read-items l.rows l.read-index
+    × ((a : ℕ) → AreReadingsOf l.block.graph.now a (row_of l.rows a))
+    × AreTold l.block.graph.now l.block.from l.table l.c l.read-items l.rows l.read-index

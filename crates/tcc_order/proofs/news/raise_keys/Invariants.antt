@@ -7,5 +7,5 @@ invariant-loop-key_index l =
     (length l.last ≡ length l.initial.last)
     × (length l.heads ≡ length l.initial.heads)
     × AreRaised (take l.key_index-index l.key_indices) l.session l.c l.initial.last l.last
-    × KeepHeads l.graph l.from l.floor l.initial.last l.initial.heads l.heads
-    × HasHeads l.graph l.floor l.c (take l.key_index-index l.key_indices) l.heads
+    × KeepHeads l.block.graph.now l.block.from l.block.floor l.initial.last l.initial.heads l.heads
+    × HasHeads l.block.graph.now l.block.floor l.c (take l.key_index-index l.key_indices) l.heads

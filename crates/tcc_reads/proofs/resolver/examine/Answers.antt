@@ -50,10 +50,10 @@ loop-place-preserved g c =
           c.unpack_txn.new.ops.items same c.split_at.result.1.now (c.split_at.ensures.back ∙ ap (λ (k : ℕ). drop k c.loop-place.left.now) (c.len.ensures ∙ c.unpack_txn.new.ops.ok.0));
       own = λ distinct. own_later s places i _ c.loop-place-test.true c.in_ok-located.located located table (c.loop-place.invariant.own distinct);
       transactions = entries_taken s places i _ c.loop-place-test.true c.in_ok-located.located located table
-          (entries_of c.args.first.now.writers.keys c.loop-place.transactions.items)
-          (entries_of c.args.first.now.writers.keys c.examine_one.new.transactions.items) _ c.in_ok-examine_one.ensures.transactions
+          (entries_of c.args.first.now.writers.keys c.loop-place.transactions)
+          (entries_of c.args.first.now.writers.keys c.in_ok-transactions-2.transactions) _ c.in_ok-transactions-2.ensures.transactions
           c.loop-place.invariant.transactions;
-      within = c.in_ok-examine_one.ensures.within c.loop-place.invariant.within;
+      within = c.in_ok-transactions-2.ensures.within c.loop-place.invariant.within;
       faults = faults_taken s places i _ c.loop-place-test.true c.in_ok-located.located located table c.loop-place.faults.items
-          c.examine_one.new.faults.items _ c.in_ok-examine_one.ensures.faults c.loop-place.invariant.faults;
+          c.examine_one.new.faults.items _ c.in_ok-transactions-2.ensures.faults c.loop-place.invariant.faults;
     }

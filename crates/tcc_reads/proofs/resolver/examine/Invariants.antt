@@ -12,10 +12,10 @@ abbrev pub invariant-loop-place : goal.invariant-loop-place
 invariant-loop-place g l = record {
   indices : AreNumbers l.first.writers.keys l.left (keys_used (numbered l.snapshot (drop l.place-index l.places)));
   own : l.first.distinct ≡ true → AreOwn (writers_in l.first.writers) (numbered l.snapshot (drop l.place-index l.places));
-  transactions : entries_of l.first.writers.keys l.transactions.items
+  transactions : entries_of l.first.writers.keys l.transactions
       ++ entries_found (writers_in l.first.writers) (numbered l.snapshot (drop l.place-index l.places)) ≡ initial
       ∷ entries_found (writers_in l.first.writers) (numbered l.snapshot l.places);
-  within : All (IsWithin (length l.first.writers.keys)) l.transactions.items;
+  within : All (IsWithin (length l.first.writers.keys)) l.transactions;
   faults : l.faults.items ++ flat_map (faults_found (writers_in l.first.writers)) (numbered l.snapshot (drop l.place-index l.places))
       ≡ flat_map (faults_found (writers_in l.first.writers)) (numbered l.snapshot l.places);
 }

@@ -16,7 +16,7 @@ pub first_writes-requires-clause-all : goal.first_writes-requires-clause-all
 first_writes-requires-clause-all g c = ap (numbered c.args.snapshot.now) c.deref.ensures.value ∙ c.in_ok-stands.ensures.list
 
 found : (g : Over) (c : In_ok-transactions g) → AreFindings (entries c.args.snapshot.now) c.in_ok-sessions.sessions.items
-    (writers_in c.in_ok-first.first.writers) (entries_of c.in_ok-first.first.writers.keys c.in_ok-transactions.field-0.transactions.items)
+    (writers_in c.in_ok-first.first.writers) (entries_of c.in_ok-first.first.writers.keys c.in_ok-transactions.field-0.transactions)
     c.in_ok-transactions.field-0.faults.items
 found g c =
     findings (entries c.args.snapshot.now) _ (writers_in c.in_ok-first.first.writers) _ _ _ _ _
@@ -30,10 +30,10 @@ pub invariant_of-result : goal.invariant_of-result
 invariant_of-result g c =
     let at = goal.at.invariant_of-result g c in
     let keys = c.in_ok-first.first.writers.keys in
-    let transactions = c.in_ok-transactions.field-0.transactions.items in
+    let transactions = c.in_ok-transactions.field-0.transactions in
     rw (c.into_names.ensures.names, c.into_keys.ensures) (
       stored_findings (entries c.args.snapshot.now) _ _ _ _ (found g at.In_ok-transactions) c.in_ok-places.places.items (none g at.Then-is_empty)
-          (rw c.deref-then-is_empty.ensures.value at c.in_ok-places.ensures ∙ sym (places_named keys transactions))
+          (c.in_ok-places.ensures ∙ sym (places_named keys transactions))
           (omega (arith, c.in_ok-stands.ensures.few_sessions, sessions_large g.B.Bounds.limits))
           (omega (arith, c.in_ok-stands.ensures.few_transactions, transactions_large g.B.Bounds.limits)),
       record {

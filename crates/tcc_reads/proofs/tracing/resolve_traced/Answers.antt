@@ -18,13 +18,13 @@ pub first_writes-requires-clause-all : goal.first_writes-requires-clause-all
 first_writes-requires-clause-all g c = ap (numbered c.args.snapshot.now) c.deref.ensures.value ∙ c.in_ok-stands.ensures.list
 
 found : (g : Over) (c : In_ok-keep_traced g) → AreFindings (entries c.args.snapshot.now) c.in_ok-sessions.sessions.items
-    (writers_in c.in_ok-first.first.writers) (entries_of c.in_ok-first.first.writers.keys c.in_ok-found.found.transactions.items) c.in_ok-found.found.faults.items
+    (writers_in c.in_ok-first.first.writers) (entries_of c.in_ok-first.first.writers.keys c.in_ok-found.found.transactions) c.in_ok-found.found.faults.items
 found g c =
     findings (entries c.args.snapshot.now) _ (writers_in c.in_ok-first.first.writers) _ _ _ _ _
     c.in_ok-sessions.ensures c.in_ok-stands.ensures.list
     (ap (numbered c.args.snapshot.now) c.deref.ensures.value) c.in_ok-first.ensures.first (ap (numbered c.args.snapshot.now) c.deref-2.ensures.value) c.in_ok-found.ensures.transactions c.in_ok-found.ensures.faults
 
-traced : (g : Over) (c : In_ok-keep_traced g) → entries_of c.in_ok-first.first.writers.keys c.keep_traced.new.found.transactions.items
+traced : (g : Over) (c : In_ok-keep_traced g) → entries_of c.in_ok-first.first.writers.keys c.keep_traced.new.found.transactions
     ≡ initial ∷ entries_traced (writers_in c.in_ok-first.first.writers) (is_unique c.in_ok-found.found.faults.items) (numbered_from 1 (stands_from 0 (entries c.args.snapshot.now)))
 traced g c =
     c.in_ok-keep_traced.ensures.transactions
@@ -35,10 +35,10 @@ pub invariant_of-history : goal.invariant_of-history
 invariant_of-history g c =
     let at = (goal.at.invariant_of-history g c).In_ok-keep_traced in
     let keys = c.in_ok-first.first.writers.keys in
-    let transactions = c.keep_traced.new.found.transactions.items in
+    let transactions = c.keep_traced.new.found.transactions in
     rw (c.into_names.ensures.names, c.into_keys.ensures) (
       stored_traced (entries c.args.snapshot.now) _ _ _ _ (found g at) _ (traced g at) c.in_ok-places.places.items
-          (rw c.deref-4.ensures.value at c.in_ok-places.ensures ∙ sym (places_named keys transactions))
+          (c.in_ok-places.ensures ∙ sym (places_named keys transactions))
           (omega (arith, c.in_ok-stands.ensures.few_sessions, sessions_large g.B.Bounds.limits))
           (omega (arith, c.in_ok-stands.ensures.few_transactions, transactions_large g.B.Bounds.limits)),
       record {

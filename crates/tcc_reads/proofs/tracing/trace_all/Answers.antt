@@ -47,8 +47,8 @@ loop-place-preserved g c =
       indices = theirs s places i _ c.loop-place-test.true c.args.first.now.writers.keys c.loop-place.left.now c.loop-place.invariant.indices
           c.unpack_txn.new.ops.items same c.split_at.result.1.now (c.split_at.ensures.back ∙ ap (λ (k : ℕ). drop k c.loop-place.left.now) (c.len.ensures ∙ c.unpack_txn.new.ops.ok.0));
       traced = traced_taken s places i _ c.loop-place-test.true c.in_ok-located.located located (writers_in c.args.first.now.writers)
-          (is_outside c.args.rewrites.now) (entries_of c.args.first.now.writers.keys c.loop-place.transactions.items)
-          (entries_of c.args.first.now.writers.keys c.trace_one.new.transactions.items) _ c.in_ok-trace_one.ensures.transactions
+          (is_outside c.args.rewrites.now) (entries_of c.args.first.now.writers.keys c.loop-place.transactions)
+          (entries_of c.args.first.now.writers.keys c.in_ok-transactions-2.transactions) _ c.in_ok-transactions-2.ensures.transactions
           c.loop-place.invariant.traced;
-      within = c.in_ok-trace_one.ensures.within c.loop-place.invariant.within;
+      within = c.in_ok-transactions-2.ensures.within c.loop-place.invariant.within;
     }

@@ -11,8 +11,8 @@ use Rattle.tcc_reads.proofs.tracing.trace_all.Given as goal
 abbrev pub invariant-loop-place : goal.invariant-loop-place
 invariant-loop-place g l = record {
   indices : AreNumbers l.first.writers.keys l.left (keys_used (numbered l.snapshot (drop l.place-index l.places)));
-  traced : entries_of l.first.writers.keys l.transactions.items
+  traced : entries_of l.first.writers.keys l.transactions
       ++ entries_traced (writers_in l.first.writers) (is_outside l.rewrites) (numbered l.snapshot (drop l.place-index l.places))
       ≡ initial ∷ entries_traced (writers_in l.first.writers) (is_outside l.rewrites) (numbered l.snapshot l.places);
-  within : All (IsWithin (length l.first.writers.keys)) l.transactions.items;
+  within : All (IsWithin (length l.first.writers.keys)) l.transactions;
 }

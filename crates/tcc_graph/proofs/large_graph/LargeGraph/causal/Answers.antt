@@ -13,7 +13,7 @@ pub returns-else-session : goal.returns-else-session
 returns-else-session c =
     rw (← c.self.view_is)
     (let names = c.self.inside.keys.items in
-    let indexed = c.self.inside.indexed.items in
+    let indexed = c.self.inside.indexed in
     let inv = c.self.invariant in
     let row = row_of c.self.inside.key_indices c.args.a in
     let from = subst (λ (h : History). c.args.a < length h.entries) (sym c.self.view_is) c.requires.from in

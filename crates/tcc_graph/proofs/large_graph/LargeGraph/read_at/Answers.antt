@@ -14,7 +14,7 @@ use Rattle.tcc_graph.proofs.large_graph.LargeGraph.read_at.Goals as goal
 pub returns-clause-readings : goal.returns-clause-readings
 returns-clause-readings c =
     let names = c.self.inside.keys.items in
-    let indexed = c.self.inside.indexed.items in
+    let indexed = c.self.inside.indexed in
     let entries = entries_of names indexed in
     let table = c.self.inside.key_indices in
     let inv = c.self.invariant in
@@ -30,7 +30,7 @@ returns-clause-readings c =
 pub returns-clause-from : goal.returns-clause-from
 returns-clause-from c =
     let names = c.self.inside.keys.items in
-    let indexed = c.self.inside.indexed.items in
+    let indexed = c.self.inside.indexed in
     let inv = c.self.invariant in
     let row : List (ℕ × ℕ) = row_of c.self.inside.key_indices c.args.a in
     rw (← c.self.view_is, c.groups.ensures.value, c.values.ensures, zip-map row) (λ b to.

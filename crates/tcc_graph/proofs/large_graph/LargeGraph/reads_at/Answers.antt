@@ -7,5 +7,5 @@ use Rattle.tcc_graph.proofs.large_graph.LargeGraph.reads_at.Goals as goal
 pub returns-clause-within : goal.returns-clause-within
 returns-clause-within c =
     rw (← c.self.view_is, c.reads.ensures, ← c.self.invariant.keyed)
-    (reads_below c.self.inside.keys.items (entries_of c.self.inside.keys.items c.self.inside.indexed.items) c.self.inside.indexed.items c.self.invariant.indexed c.self.invariant.sources c.args.c
-    (subst (λ (h : History). c.args.c < length h.entries) (sym c.self.view_is) c.requires) c.index.result.now c.index.ensures)
+    (reads_below c.self.inside.keys.items (entries_of c.self.inside.keys.items c.self.inside.indexed) c.self.inside.indexed c.self.invariant.indexed c.self.invariant.sources c.args.c
+    (subst (λ (h : History). c.args.c < length h.entries) (sym c.self.view_is) c.requires))

@@ -11,20 +11,20 @@ use Rattle.tcc_graph.proofs.large_graph.LargeGraph.reads_from_at.Goals as goal
 
 pub returns-clause-value : goal.returns-clause-value
 returns-clause-value c =
-    let entries = entries_of c.self.inside.keys.items c.self.inside.indexed.items in
+    let entries = entries_of c.self.inside.keys.items c.self.inside.indexed in
     let inv = c.self.invariant in
     rw (← c.self.view_is, c.get.ensures)
     (subst (λ (names : List (List ℕ)). map (name_of names) (of_group (row_of c.self.inside.key_indices c.args.a) c.args.b) ≡ reads_from (over entries) c.args.a c.args.b)
     c.self.invariant.keyed
-    (names_from entries c.self.inside.keys.items c.self.inside.indexed.items inv.sorted inv.indexed c.self.inside.key_indices inv.read_indexed c.args.a
+    (names_from entries c.self.inside.keys.items c.self.inside.indexed inv.sorted inv.indexed c.self.inside.key_indices inv.read_indexed c.args.a
     (subst (λ (h : History). c.args.a < length h.entries) (sym c.self.view_is) c.requires.from) (row_of c.self.inside.key_indices c.args.a) refl c.args.b
     (subst (λ (h : History). c.args.b < length h.entries) (sym c.self.view_is) c.requires.to)))
 
 pub returns-clause-within : goal.returns-clause-within
 returns-clause-within c =
-    let entries = entries_of c.self.inside.keys.items c.self.inside.indexed.items in
+    let entries = entries_of c.self.inside.keys.items c.self.inside.indexed in
     let inv = c.self.invariant in
     rw (← c.self.view_is, c.get.ensures, ← c.self.invariant.keyed)
-    (from_within entries c.self.inside.keys.items c.self.inside.indexed.items inv.sorted inv.indexed c.self.inside.key_indices inv.read_indexed c.args.a
+    (from_within entries c.self.inside.keys.items c.self.inside.indexed inv.sorted inv.indexed c.self.inside.key_indices inv.read_indexed c.args.a
     (subst (λ (h : History). c.args.a < length h.entries) (sym c.self.view_is) c.requires.from) (row_of c.self.inside.key_indices c.args.a) refl c.args.b
     (subst (λ (h : History). c.args.b < length h.entries) (sym c.self.view_is) c.requires.to))

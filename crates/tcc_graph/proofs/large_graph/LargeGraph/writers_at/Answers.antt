@@ -5,8 +5,9 @@ use Rattle.tcc_graph.proofs.large_graph.LargeGraph.writers_at.Goals as goal
 
 pub returns : goal.returns
 returns c =
-    rw (← c.self.view_is, ← c.self.invariant.keyed)
-    (c.writers.ensures ∙ writers_here (entries_of c.self.inside.keys.items c.self.inside.indexed.items) c.self.inside.keys.items c.self.inside.indexed.items c.self.invariant.sorted
-    c.self.invariant.indexed
-    c.self.inside.rows.items c.self.invariant.rowed c.args.key_index
-    (rw (← c.self.view_is, ← c.self.invariant.keyed) at c.requires) c.index.result.now c.index.ensures c.self.invariant.keyed)
+    let i = c.self.inside in
+    let inv = c.self.invariant in
+    rw (← c.self.view_is, ← inv.keyed)
+    (c.groups.ensures
+    ∙ writers_here (entries_of i.keys.items i.indexed) i.keys.items i.indexed inv.sorted inv.indexed i.writers.rows inv.written inv.keyed c.args.key_index
+    (rw (← c.self.view_is, ← inv.keyed) at c.requires))

@@ -54,7 +54,7 @@ loop-number-preserved-in-Continue-1 c =
     let after : AreQueued (holds h kept) ps placed (IsNot number) (rest ++ ready) waiting
     = queued_popped (holds h kept) ps placed ((rest ++ number ∷ []) ++ ready) (rest ++ ready) waiting number (queued some)
     (λ y there left. last_woken rest ready number y there) (λ y there. other_woken rest ready number y there) in
-    let put : c.push.new.self ≡ set waiting other (number ∷ row_of waiting other) = c.in_ok-push-in-Some-missing.ensures in
+    let put : c.push.new.self ≡ set waiting other (number ∷ row_of waiting other) = c.in_ok-push-in-Some-missing.ensures.value in
     rw put (
       length-set c.loop-number.queue.seen.items number c.unwrap_or.result ∙ c.loop-number.invariant.0,
       queued_parked (holds h kept) ps placed (rest ++ ready) waiting number other after
