@@ -1,4 +1,4 @@
-"""What the demos of redis/, postgres/ and galera/ share. They run commands as they would be typed, show the answers for what their
+"""What the demos of real servers share. They run commands as they would be typed, show the answers for what their
 recorder wrote, and end with a report of the first history that isn't consistent."""
 import argparse
 import contextlib
@@ -11,7 +11,7 @@ import sys
 import tempfile
 import threading
 from dataclasses import dataclass
-from typing import IO, Callable, Dict, List, Optional, Sequence, Tuple, TypeVar
+from typing import IO, Callable, Dict, List, Optional, Sequence, Set, Tuple, TypeVar
 
 RECIPES = pathlib.Path(__file__).resolve().parent
 BUILT = RECIPES.parent / "crates/tcc/out/tcc"
@@ -27,7 +27,11 @@ TURNS, TURN = 3, "{turn}"
 SECONDS, END_SECONDS = 1800, 60
 
 sys.path.insert(0, str(RECIPES.parent / "python"))
-from tcc.clients import UNPLAYED, stop  # noqa: E402
+from tcc.common.words import command_line  # noqa: E402
+from tcc.harness.recipe import UNPLAYED  # noqa: E402
+from tcc.harness.servers import stop  # noqa: E402
+from tcc.judging.noted_versions import NoVersions  # noqa: E402
+from tcc.judging.versions import Versioned, write_versioned  # noqa: E402
 
 Played = TypeVar("Played")
 
@@ -135,6 +139,31 @@ def report(tcc: str, folder: pathlib.Path, name: str, reports: pathlib.Path, mor
         raise Failed("report.py wrote no page")
 
 
+def asked_of(about: str) -> argparse.Namespace:
+    """What a demo is asked for."""
+    ask = command_line(about, EXAMPLE)
+    ask.add_argument("--tcc", help="the program, by default the built one, or else the one on the path")
+    ask.add_argument("--reports", metavar="FOLDER", type=pathlib.Path, help="where the report goes, by default a new folder, which stays")
+    return ask.parse_args()
+
+
+def ended_with(needs: str, has_all: bool, show: Callable[[], bool], said: str) -> int:
+    """Shows what a demo shows, where all that it needs is there; the exit status."""
+    if not has_all:
+        print("demo.py: no %s" % needs, file=sys.stderr)
+        return WITHOUT_SERVER
+    try:
+        is_right = show()
+    except Unplayed as error:
+        print("demo.py: %s" % error, file=sys.stderr)
+        return WITHOUT_SERVER
+    except (Failed, NoVersions, OSError) as error:
+        print("demo.py: %s" % error, file=sys.stderr)
+        return 1
+    print(said if is_right else "NOT what was expected")
+    return 0 if is_right else 1
+
+
 @dataclass(frozen=True)
 class Demo:
     """What is shown: the answers for what a recorder writes in some rounds, by what it is asked for in each. `needs` says what
@@ -152,24 +181,9 @@ class Demo:
 
     def run(self, has_server: bool) -> int:
         """Shows it; the exit status."""
-        ask = argparse.ArgumentParser(description=self.about, epilog=EXAMPLE, formatter_class=argparse.RawDescriptionHelpFormatter)
-        ask.add_argument("--tcc", help="the program, by default the built one, or else the one on the path")
-        ask.add_argument("--reports", metavar="FOLDER", type=pathlib.Path, help="where the report goes, by default a new folder, which stays")
-        asked = ask.parse_args()
-        python = python_with(self.library)
-        if not has_server or python is None:
-            print("demo.py: no %s" % self.needs, file=sys.stderr)
-            return WITHOUT_SERVER
-        try:
-            found = self.is_expected(self.answers(python, program(asked.tcc), asked.reports))
-        except Unplayed as error:
-            print("demo.py: %s" % error, file=sys.stderr)
-            return WITHOUT_SERVER
-        except (Failed, OSError) as error:
-            print("demo.py: %s" % error, file=sys.stderr)
-            return 1
-        print(self.said if found else "NOT what was expected")
-        return 0 if found else 1
+        asked, python = asked_of(self.about), python_with(self.library)
+        return ended_with(self.needs, has_server and python is not None,
+                          lambda: self.is_expected(self.answers(python or "", program(asked.tcc), asked.reports)), self.said)
 
     def command(self, python: str, tcc: str, words: List[str], turn: int) -> List[str]:
         more = ["--watch", "--tcc", tcc] if self.watched else []
@@ -187,3 +201,81 @@ class Demo:
             report(tcc, folder, name, reports or pathlib.Path(tempfile.mkdtemp(prefix="tcc-report-")))
             print()
         return found
+
+
+Stale = Set[Tuple[str, str]]
+
+
+@dataclass
+class Round:
+    """What a round left in its folder: records, versions, annotations, and the reads that are stale by versions."""
+
+    name: str
+    folder: pathlib.Path
+
+    def path(self, end: str) -> pathlib.Path:
+        return self.folder / (self.name + end)
+
+    def stale(self) -> Stale:
+        return {(label, key) for label, key in map(str.split, self.path("-stale.txt").read_text().splitlines())}
+
+
+def surveyed(tcc: str, path: pathlib.Path) -> List[dict]:
+    """The contradicted reads of a history."""
+    *lines, _ = run([tcc, "survey", "--json", "--large", str(path)], most=1).splitlines()
+    return [told for told in map(json.loads, lines) if "contradicted" in told]
+
+
+def found_by(told: Versioned, listed: List[dict]) -> Stale:
+    """The reads of the history, each a label and a key, that a survey of the records with versions lists."""
+    return {(one["contradicted"], told.marks.get(one["key"], one["key"])) for one in listed if not told.is_made(one["contradicted"])}
+
+
+@dataclass(frozen=True)
+class VersionedDemo:
+    """What is shown of a store that numbers its writes: `rounds` by what its recorder is asked for in each, of which those of `kept` are
+    consistent and the others are not. The stale reads that a survey lists have to be those of the recorder's own count by versions."""
+
+    about: str
+    recorder: pathlib.Path
+    needs: str
+    rounds: Dict[str, List[str]]
+    kept: Sequence[str]
+    said: str
+    library: Optional[str] = None
+
+    def run(self, has_server: bool) -> int:
+        """Shows it; the exit status."""
+        asked = asked_of(self.about)
+        python = python_with(self.library) if self.library else sys.executable
+        return ended_with(self.needs, has_server and python is not None, lambda: self.show_all(python or "", program(asked.tcc), asked.reports), self.said)
+
+    def show_all(self, python: str, tcc: str, reports: Optional[pathlib.Path]) -> bool:
+        """Shows all rounds, and says whether each is what it has to be; the first one gets a report."""
+        are_right = []
+        with tempfile.TemporaryDirectory() as name:
+            for each in self.rounds:
+                one = in_turns(lambda turn: self.played(python, pathlib.Path(name), each, turn))
+                are_right.append(self.is_expected(tcc, one))
+                if each == next(iter(self.rounds)):
+                    report(tcc, one.folder, each, reports or pathlib.Path(tempfile.mkdtemp(prefix="tcc-report-")),
+                           ["--versions", str(one.path("-versions.csv"))])
+        return all(are_right)
+
+    def played(self, python: str, top: pathlib.Path, name: str, turn: int) -> Round:
+        """Plays a round, in the first turn with the least patience."""
+        one = Round(name, pathlib.Path(tempfile.mkdtemp(dir=top)))
+        run([python, str(self.recorder), *self.rounds[name], "--patience", str(turn * turn), "-o", str(one.path(".csv")), "--versions",
+             str(one.path("-versions.csv")), "--notes", str(one.path("-notes.csv")), "--stale", str(one.path("-stale.txt"))])
+        return one
+
+    def is_expected(self, tcc: str, one: Round) -> bool:
+        """Shows the answers for a round, and says whether they are what they have to be."""
+        told, stale = write_versioned(one.path(".csv"), one.path("-versions.csv"), one.path("-judged.csv")), one.stale()
+        answer = run([tcc, "explain", "--large", "--quiet", str(one.path("-judged.csv"))], most=UNRESOLVED).decode()
+        shown(answer.encode())
+        found, without = found_by(told, surveyed(tcc, one.path("-judged.csv"))), surveyed(tcc, one.path(".csv"))
+        print("%s: by the store's versions %d reads are stale; with versions tcc finds %d of them and %d others, without versions %d\n" % (
+            one.name, len(stale), len(found & stale), len(found - stale), len(without)))
+        is_kept = one.name in self.kept
+        return answer.startswith("consistent" if is_kept else "anomaly") and found == stale and bool(stale) != is_kept

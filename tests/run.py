@@ -10,11 +10,10 @@ on stored inputs, the package of python/ as pip installs it, and what the docume
 
 Where a machine stops a run after a time, --minutes says when the last check of a mutant begins. Those that are left are named.
 The scripts run side by side, and the output of each is shown when it ends; those that measure time run last and alone.
-A table says where the time went (`spent.py`). What failed is shown once more after it, as a log may keep its end alone. The last
-line is `N passed, M failed`, the sum of all; the status is 0 only where all passed.
+A table says where the time went (`spent.py`). What wasn't tried, and why, is listed after it, and then what failed, as a log may
+keep its end alone. The last line is `N passed, M failed`, the sum of all; the status is 0 only where all passed.
 """
 import argparse
-import collections
 import concurrent.futures
 import contextlib
 import pathlib
@@ -33,10 +32,12 @@ MUTANTS = "wrong/run.py --beside-gate"
 ON_THE_PROGRAM = ("rows/run.py --workers 32", "certificates/run.py", "memory/run.py",
                   "rows/run.py --workers 2 --searched", "rows/run.py --checker", "recipes/run.py", "large/run.py", "survey/run.py",
                   "python/run.py", "docs/run.py", "seals/run.py", "watch/run.py", "rows/numbers.py", "rows/filled.py", "rows/options.py",
-                  "rows/commands.py", "wrong/trial.py")
+                  "rows/commands.py", "certificates/rechecked.py", "wrong/trial.py", "scheduled.py")
 # (these go by time, and by a terminal)
 ALONE = ("large/watched.py", "hostile/run.py")
 CLOSING = re.compile(r"(\d+) passed, (\d+) failed$")
+# What a script prints of that which it couldn't try.
+UNTRIED = re.compile(r": (?:passed over: |NOT TRIED)")
 # So much of what failed is shown again: lines of each command, and characters of each line.
 AGAIN, WIDE = 12, 300
 
@@ -48,12 +49,15 @@ class Counts:
         self.passed = self.failed = 0
         self.spent = {}
         self.wrong = []
+        self.untried = []
 
     def add(self, command, status, lines):
         """Adds what a command came to, by the two numbers of the last of its lines.
 
         A command that ends with a status other than 0, or has no such line, has failed at least once.
         """
+        self.untried += ["%s: %s" % (name_of(command), line[:WIDE]) for line in lines if UNTRIED.search(line)]
+        lines = lines[-AGAIN:]
         closing = CLOSING.search(lines[-1] if lines else "")
         passed, failed = map(int, closing.groups()) if closing else (0, 0)
         if failed == 0 and (status != 0 or not closing):
@@ -65,7 +69,7 @@ class Counts:
 
     def run(self, command, beside=None):
         """Runs a command, shows what it prints as it comes, to one that runs beside it too, and adds what it came to."""
-        lines, began = collections.deque(maxlen=AGAIN), time.time()
+        lines, began = [], time.time()
         with subprocess.Popen(command, cwd=TOP, stdout=subprocess.PIPE, text=True, errors="replace") as running:
             for line in running.stdout:
                 sys.stdout.write(line)
@@ -75,7 +79,7 @@ class Counts:
                 if line.strip():
                     lines.append(line.strip())
             self.spent[name_of(command)] = waited(running, began)
-        self.add(command, running.returncode, list(lines))
+        self.add(command, running.returncode, lines)
 
     def run_side_by_side(self, commands, lanes, beside):
         """Runs commands, so many at a time, with one that runs already, and shows and adds each when it ends."""
@@ -84,7 +88,7 @@ class Counts:
             for ended in concurrent.futures.as_completed(running):
                 status, text, self.spent[name_of(running[ended])] = ended.result()
                 print("== %s\n%s" % (name_of(running[ended]), text), end="", flush=True)
-                self.add(running[ended], status, text.strip().splitlines()[-AGAIN:])
+                self.add(running[ended], status, text.strip().splitlines())
 
 
 class Beside:
@@ -151,7 +155,8 @@ def main():
             for test in ALONE:
                 counts.run(of_script(test))
     whole = counts.spent.pop(name_of(GATE))
-    print("\n".join([*table(watch, whole, counts.spent), *counts.wrong]))
+    untried = ["not tried: %d" % len(counts.untried), *counts.untried]
+    print("\n".join([*table(watch, whole, counts.spent), *untried, *counts.wrong]))
     print("%d passed, %d failed" % (counts.passed, counts.failed), flush=True)
     return 1 if counts.failed else 0
 

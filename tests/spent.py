@@ -144,8 +144,27 @@ def chain(seconds: Dict[str, float]) -> Tuple[float, List[str]]:
     return max(best.values())
 
 
+def waited_for(proofs: Dict[str, Spent]) -> List[str]:
+    """The crates that ended this run so late, the last first: each waited for the one after it, which of those that it names ended last.
+
+    A crate that isn't of the repository is passed over; the gate proves some of its own.
+    """
+    libraries, found = stands_on(), []
+    name = max((one for one in proofs if one in libraries), key=lambda one: proofs[one].end, default=None)
+    while name is not None:
+        found.append(name)
+        name = max((one for one in libraries[name] if one in proofs), key=lambda one: proofs[one].end, default=None)
+    return found
+
+
+def waits(proofs: Dict[str, Spent], began: float) -> Iterator[str]:
+    """The lines of that chain, lowest first, each with the minutes at which its proof began and ended."""
+    for name in reversed(waited_for(proofs)):
+        yield "%-28s %8.1f %8.1f" % (name, (proofs[name].begin - began) / 60, (proofs[name].end - began) / 60)
+
+
 def by_crate(watch: Watch) -> Iterator[str]:
-    """The lines of the crates, and of the longest chain of their proofs."""
+    """The lines of the crates, of the longest chain of their proofs, and of the chain that others waited for in this run."""
     found = watch.by_kind()
     seconds = {(crate, kind): sum(found[crate, one].seconds for one in parts if (crate, one) in found)
                for crate in stands_on() for kind, parts in KINDS.items()}
@@ -157,6 +176,9 @@ def by_crate(watch: Watch) -> Iterator[str]:
             yield "%-28s %8.1f %8.1f %8.1f %8.1f %8s" % (crate, *parts, sum(parts), number)
     longest = chain({crate: seconds[crate, "proofs"] for crate in stands_on()})
     yield "longest chain of proofs: %.1f: %s" % (longest[0] / 60, " ".join(longest[1]))
+    yield ""
+    yield "%-28s %8s %8s" % ("each waited for the one before", "from", "to")
+    yield from waits({crate: spent for (crate, kind), spent in found.items() if kind == "proofs"}, watch.began)
 
 
 def line(name: str, spent: Spent, began: float) -> str:

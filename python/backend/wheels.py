@@ -1,6 +1,6 @@
 """Builds the package with what Python has, for pip and others who ask as PEP 517 and PEP 660 say.
 
-What a wheel says of itself comes from pyproject.toml; of TOML this reads what is there: sections, and names with texts.
+What a wheel says of itself comes from pyproject.toml; of TOML this reads what is there: sections, and names with a text, or a list of one.
 """
 import base64
 import hashlib
@@ -15,6 +15,7 @@ from typing import Any, Dict, Iterator, List, Optional, Tuple
 TOP = pathlib.Path(__file__).resolve().parent.parent
 SECTION = re.compile(r"\[([^]]+)\]")
 TEXT = re.compile(r'([\w-]+) = "(.*)"')
+LIST = re.compile(r'([\w-]+) = \["(.*)"\]')
 # The time of each file in an archive, so that the same files make the same bytes.
 TIME = (2000, 1, 1, 0, 0, 0)
 ENTRY_POINTS = {"project.scripts": "console_scripts", "project.entry-points.pytest11": "pytest11"}
@@ -26,7 +27,7 @@ def project() -> Dict[str, Dict[str, str]]:
     found: Dict[str, Dict[str, str]] = {}
     section = ""
     for line in (TOP / "pyproject.toml").read_text(encoding="utf-8").splitlines():
-        heading, text = SECTION.fullmatch(line), TEXT.fullmatch(line)
+        heading, text = SECTION.fullmatch(line), TEXT.fullmatch(line) or LIST.fullmatch(line)
         if heading:
             section = heading.group(1)
         elif text:
@@ -44,7 +45,9 @@ def metadata() -> str:
     fields = (("Metadata-Version", "2.1"), ("Name", told["name"]), ("Version", told["version"]), ("Summary", told["summary"]),
               ("License", told["license"]), ("Requires-Python", told["requires-python"]),
               ("Description-Content-Type", "text/markdown"))
-    text = "".join("%s: %s\n" % field for field in fields)
+    extras = tuple(field for name, needs in project().get("project.optional-dependencies", {}).items() for field in (
+        ("Provides-Extra", name), ("Requires-Dist", '%s; extra == "%s"' % (needs, name))))
+    text = "".join("%s: %s\n" % field for field in fields + extras)
     return text + "\n" + (TOP / "README.md").read_text(encoding="utf-8")
 
 

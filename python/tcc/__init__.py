@@ -1,8 +1,14 @@
 """Records what clients of a store see, and asks `tcc` whether it kept transactional causal consistency."""
-from tcc.looking import Asking, Looking, look, seal, snapshot
-from tcc.recording import Busy, Call, NoRecord, Read, Recorder, Session, Transaction, Write
-from tcc.runner import Answer, Anomaly, Consistent, Fault, NoAnswer, Step, Unresolved, explain
-from tcc.watching import BrokenPromise, Watching
+from tcc.common.appended import Busy, NoRecord
+from tcc.judging.judge import Judge, assert_causal, judge
+from tcc.judging.program import NoAnswer
+from tcc.judging.runner import Anomaly, Answer, Consistent, Fault, Step, Unresolved, explain
+from tcc.record.memory import MemoryRecorder
+from tcc.record.recorder import Recorder
+from tcc.record.transactions import Call, Read, Session, Transaction, Write
+from tcc.watch.looking import Asking, Looking, look, seal, snapshot
+from tcc.watch.watching import BrokenPromise, Watching
 
-__all__ = ["Answer", "Anomaly", "Asking", "BrokenPromise", "Busy", "Call", "Consistent", "Fault", "Looking", "NoAnswer", "NoRecord", "Read",
-           "Recorder", "Session", "Step", "Transaction", "Unresolved", "Watching", "Write", "explain", "look", "seal", "snapshot"]
+__all__ = ["Answer", "Anomaly", "Asking", "BrokenPromise", "Busy", "Call", "Consistent", "Fault", "Judge", "Looking", "MemoryRecorder", "NoAnswer",
+           "NoRecord", "Read", "Recorder", "Session", "Step", "Transaction", "Unresolved", "Watching", "Write", "assert_causal", "explain",
+           "judge", "look", "seal", "snapshot"]

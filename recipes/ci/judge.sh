@@ -1,20 +1,21 @@
 #!/bin/sh
 # Judges what the clients of a test recorded, as a step of continuous integration.
 #
-#     judge.sh FOLDER [OPTION ..]
+#     judge.sh CLIENTS [OPTION ..]
 #     judge.sh HISTORY [OPTION ..]
 #
 # A history, such as Jepsen's store/latest/history.edn, is judged by report.py, or by tcc-report where this file is without it, with
 # the options. The page causal.html lies beside the history then. The status is 0, 1, 2 and others as below.
 #
-# Of a folder it joins the files FOLDER/*.csv, and asks `tcc explain` for them, with the options: --large, say, or --level atomic. What TCC names
-# is the program, by default `tcc`. FOLDER/judged keeps the records, the answer, and what standard error had.
+# CLIENTS is a folder with a file for each client of one history. It joins CLIENTS/*.csv, and asks `tcc explain` about them, with the
+# options: --large, say, or --level atomic. What TCC names is the program, by default `tcc`. CLIENTS/judged keeps the records, the answer,
+# and what standard error had.
 #
 # The status is that of `tcc`, and no pipe hides it: 0 the store kept its promise; 1 it broke it; 2 reads can't be traced to a
 # write, so nothing was judged; others, nothing was judged: 3 too where there are no records, 127 where there is no program.
 #
 # example:
-#   judge.sh records --large
+#   judge.sh clients --large
 
 set -u
 

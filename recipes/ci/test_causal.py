@@ -1,8 +1,8 @@
 """Judges what the clients of a test recorded, with a report in the form of JUnit.
 
-    RECORDS=records pytest --junit-xml report.xml test_causal.py
+    ROUNDS=rounds pytest --junit-xml report.xml test_causal.py
 
-Each file `*.csv` of the folder that RECORDS names, by default `records`, is a round: its test passes where the store kept its
+Each file `*.csv` of the folder that ROUNDS names, by default `rounds`, is a whole history: its test passes where the store kept its
 promise, and fails where it broke it and where nothing was judged. A folder without rounds fails too. Needs the package in python/,
 which has the fixture `assert_causal`, and the program, which --tcc or the variable TCC names.
 """
@@ -11,7 +11,7 @@ import pathlib
 
 import pytest
 
-FOLDER = pathlib.Path(os.environ.get("RECORDS", "records"))
+FOLDER = pathlib.Path(os.environ.get("ROUNDS", "rounds"))
 ROUNDS = sorted(FOLDER.glob("*.csv"))
 
 

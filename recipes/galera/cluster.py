@@ -27,8 +27,9 @@ from dataclasses import dataclass, field
 from typing import Any, Dict, List, Optional, Tuple
 
 sys.path.insert(0, str(pathlib.Path(__file__).resolve().parents[2] / "python"))
-from tcc.clients import LOOPBACK, UNPLAYED, NoServer, free_ports, wait_until  # noqa: E402
-from tcc.words import command_line  # noqa: E402
+from tcc.harness import LOOPBACK, NoServer, free_ports, wait_until  # noqa: E402
+from tcc.harness.recipe import UNPLAYED  # noqa: E402
+from tcc.common.words import command_line  # noqa: E402
 
 EXAMPLE = """example: two rounds of clients on one cluster
   $ cluster.py start /tmp/galera

@@ -12,7 +12,7 @@ A transaction that the server refuses (a conflict of two writers) is noted as ab
 COMMIT was sent; one that broke off in its COMMIT is of unknown outcome. Then the client goes on in a new session with a
 connection of its own, as after any broken connection; with --keep-sessions in the one that it has, if no outcome is unknown.
 
-Standard output has the records, standard error what was left out. The servers are stopped and their folder goes in the end,
+Standard output has the records, standard error what was done, and what lagged. The servers are stopped and their folder goes in the end,
 whatever comes. Where the script runs as root, the servers run as the user of --user, since PostgreSQL doesn't run as root;
 that needs Python 3.9.
 
@@ -31,14 +31,14 @@ import signal
 import subprocess
 import sys
 import tempfile
-import threading
 from dataclasses import dataclass, field
-from typing import Dict, Iterator, List, Optional, Sequence, Tuple, Type
+from typing import Dict, List, Optional
 
 sys.path.insert(0, str(pathlib.Path(__file__).resolve().parents[2] / "python"))
-from tcc import clients  # noqa: E402
-from tcc.clients import LOOPBACK, Client, NoServer, Recorded, Statements, Store, run_clients  # noqa: E402
-from tcc.words import command_line, count_within  # noqa: E402
+from tcc.harness import (LOOPBACK, Atomic, Client, Keys, Mixed, NoServer, Server, Store, Trouble, TurnOver, Workload, WriteThenRead, at,  # noqa: E402
+                         free_port, recipe, wait_until)
+from tcc.harness.sql import Registers, Sql  # noqa: E402
+from tcc.common.words import command_line, count_within  # noqa: E402
 
 EXAMPLE = """example: reads of two states within one transaction, and the rows of what they saw
   $ record.py --isolation read-committed > records.csv
@@ -49,7 +49,7 @@ START_SECONDS = 120
 STOP_SECONDS = 20
 DELAY_MILLISECONDS = 500
 LEVELS = {"read-committed": "READ COMMITTED", "repeatable-read": "REPEATABLE READ", "serializable": "SERIALIZABLE"}
-REGISTERS = Statements("SELECT value FROM registers WHERE key = %s",
+REGISTERS = Registers("SELECT value FROM registers WHERE key = %s",
                        "INSERT INTO registers VALUES (%s, %s) ON CONFLICT (key) DO UPDATE SET value = excluded.value")
 KILL = "SELECT pg_terminate_backend(pid) FROM pg_stat_activity WHERE application_name = 'client' ORDER BY random() LIMIT 1"
 
@@ -84,11 +84,11 @@ class Host:
 
     def start(self, held: contextlib.ExitStack, data: str, *settings: str) -> int:
         """Starts a server on a folder of data, to be stopped with `held`, and gives its port."""
-        port = clients.free_port()
+        port = free_port()
         words = ["listen_addresses=" + LOOPBACK, "port=%d" % port, "unix_socket_directories=", "fsync=off", *settings]
         command = [program("postgres"), "-D", data, *(part for word in words for part in ("-c", word))]
-        # Stopped at once, whoever is connected.
-        clients.start(held, command, signal.SIGQUIT, STOP_SECONDS, **self.where())
+        server = Server(data, command, more=self.where()).start()
+        held.callback(server.end, signal.SIGQUIT, STOP_SECONDS)  # stopped at once, whoever is connected
         return port
 
     def connect(self, driver, port: int, name: str):
@@ -100,7 +100,7 @@ class Host:
             with contextlib.closing(self.connect(driver, port, "waiting")) as server, server.cursor() as cursor:
                 cursor.execute("SELECT count(*) FROM registers" if what == "replica" else "SELECT 1")
                 return True
-        clients.wait_until(answered, (driver.OperationalError,), START_SECONDS, "the %s didn't answer" % what)
+        wait_until(answered, (driver.OperationalError,), START_SECONDS, "the %s didn't answer" % what)
 
 
 def start_primary(driver, host: Host, held: contextlib.ExitStack, clients: int) -> int:
@@ -129,72 +129,47 @@ def start_replica(driver, host: Host, held: contextlib.ExitStack, primary: int, 
     return port
 
 
-@dataclass
 class Servers(Store):
-    """Where clients read and write, at which level."""
+    """The primary and the replica, if there is one, at a level of isolation; a replica, which is only read, has no SERIALIZABLE."""
 
-    driver: object
-    host: Host
-    primary: int
-    replica: Optional[int]
-    level: str
+    atomic = Atomic.TRANSACTION
 
-    def broken(self) -> Tuple[Type[Exception], ...]:
-        return self.driver.OperationalError, self.driver.InterfaceError
+    def __init__(self, driver, host: Host, level: str, **ports: int):
+        self.driver, self.host, self.ports, self.nodes = driver, host, ports, tuple(ports)
+        self.levels = {"primary": level, "replica": "repeatable-read" if level == "serializable" else level}
+        self.broken = driver.OperationalError, driver.InterfaceError
+        self.refused = (driver.extensions.TransactionRollbackError,)
 
-    def connections(self, held: contextlib.ExitStack) -> Sequence:
-        return [self.connection(held, port, level) for port, level in self.ports()]
-
-    def ports(self) -> Iterator[Tuple[int, str]]:
-        """Ports and levels; a replica, which is only read, has no SERIALIZABLE."""
-        yield self.primary, LEVELS[self.level]
-        if self.replica is not None:
-            yield self.replica, LEVELS["repeatable-read" if self.level == "serializable" else self.level]
-
-    def connection(self, held: contextlib.ExitStack, port: int, level: str):
-        server = held.enter_context(contextlib.closing(self.host.connect(self.driver, port, "client")))
-        server.set_session(isolation_level=level)
-        return server
-
-    def turn(self, client: Client, connections: Sequence) -> None:
-        keys = self.transact(client, connections[0], "primary", client.some_keys(), client.some_keys())
-        if len(connections) > 1:
-            self.transact(client, connections[1], "replica", keys, [])
-
-    def transact(self, client: Client, server, node: str, reads: List[str], writes: List[str]) -> List[str]:
-        return REGISTERS.transact(client, server, node, reads, writes, self.refused())
-
-    def refused(self) -> Tuple[Type[Exception], ...]:
-        return (self.driver.extensions.TransactionRollbackError,)
+    def connect(self, node: str) -> Sql:
+        server = self.host.connect(self.driver, self.ports[node], "client")
+        server.set_session(isolation_level=LEVELS[self.levels[node]])
+        return Sql(server, REGISTERS)
 
     def end(self, clients: List[Client]) -> None:
+        """What a level or a place lets happen, without luck."""
         if len(clients) > 1:
             self.read_two_states(*clients[:2])
-        if self.replica is not None:
+        if "replica" in self.ports:
             self.read_behind(clients[0])
 
     def read_two_states(self, one: Client, other: Client) -> None:
         """One reads two keys in a transaction, and between these the other one, which has read the first, writes both."""
-        with contextlib.suppress(*self.refused()), one.connected() as mine, other.connected() as its:
-            with one.transaction("primary", self.refused()) as reading, mine[0].cursor() as cursor:
-                REGISTERS.read_key(reading, cursor, "k0")
-                self.transact(other, its[0], "primary", ["k0"], ["k0", "k1"])
-                REGISTERS.read_key(reading, cursor, "k1")
-                reading.committing()
-                mine[0].commit()
+        with contextlib.suppress(TurnOver), one.statements("primary", ["k0", "k1"]) as reading:
+            reading.read("k0")
+            other.do("primary", ["k0"], ["k0", "k1"])
+            reading.read("k1")
 
     def read_behind(self, client: Client) -> None:
         """The replica, once it has all, applies nothing more; a client writes a key that it has read, and reads it there."""
-        with contextlib.closing(self.host.connect(self.driver, self.primary, "asking")) as primary, \
-                contextlib.closing(self.host.connect(self.driver, self.replica, "pausing")) as replica:
+        with contextlib.closing(self.host.connect(self.driver, self.ports["primary"], "asking")) as primary, \
+                contextlib.closing(self.host.connect(self.driver, self.ports["replica"], "pausing")) as replica:
             primary.autocommit = replica.autocommit = True
             there = first_cell(primary, "SELECT pg_current_wal_lsn()")
-            clients.wait_until(lambda: first_cell(replica, "SELECT pg_last_wal_replay_lsn() >= %s::pg_lsn", there), (), START_SECONDS,
-                               "the replica wasn't in step")
+            wait_until(lambda: first_cell(replica, "SELECT pg_last_wal_replay_lsn() >= %s::pg_lsn", there), (), START_SECONDS,
+                       "the replica wasn't in step")
             first_cell(replica, "SELECT pg_wal_replay_pause()")
-            with client.connected() as connections:
-                self.transact(client, connections[0], "primary", ["k0"], ["k0"])
-                self.transact(client, connections[1], "replica", ["k0"], [])
+            client.do("primary", ["k0"], ["k0"])
+            client.do("replica", ["k0"])
             first_cell(replica, "SELECT pg_wal_replay_resume()")
 
 
@@ -204,44 +179,40 @@ def first_cell(server, statement: str, *given: str):
         return cursor.fetchone()[0]
 
 
-@contextlib.contextmanager
-def ending_backends(servers: Servers, times: int) -> Iterator[None]:
-    """Meanwhile the backend of some client is ended, now and then, so many times."""
-    ended = threading.Event()
-    killing = threading.Thread(target=end_backends, args=(servers, times, ended), daemon=True)
-    killing.start()
-    try:
-        yield
-    finally:
-        ended.set()
-        killing.join()
-
-
-def end_backends(servers: Servers, times: int, ended: threading.Event) -> None:
-    with contextlib.closing(servers.host.connect(servers.driver, servers.primary, "killing")) as server:
-        server.autocommit = True
-        for _ in range(times):
-            if ended.wait(0.2):
-                return
+def ended_backend(servers: Servers) -> Trouble:
+    """The backend of some client is ended."""
+    def end() -> None:
+        with contextlib.closing(servers.host.connect(servers.driver, servers.ports["primary"], "killing")) as server:
+            server.autocommit = True
             with server.cursor() as cursor:
                 cursor.execute(KILL)
 
+    return Trouble("end-backend", "primary", end, seconds=0)
 
-def recorded(asked: argparse.Namespace) -> Recorded:
+
+def turn_of(keys: Keys, has_replica: bool) -> Workload:
+    """Reads of some keys, and then writes; of a replica then reads of the same keys there."""
+    if has_replica:
+        return WriteThenRead(keys, at("primary"), at("replica"), most=2, reads_before=2, beside=0)
+    return Mixed(keys, at("primary"), share_of_writes=1.0, overlaps=True)
+
+
+def recorded(asked: argparse.Namespace, folder: str) -> recipe.Played:
     """Starts the servers, lets the clients work, stops the servers."""
     import psycopg2
     import psycopg2.extensions
     with contextlib.ExitStack() as held:
-        folder = pathlib.Path(held.enter_context(tempfile.TemporaryDirectory()))
+        own = pathlib.Path(held.enter_context(tempfile.TemporaryDirectory()))
         user = asked.user if os.geteuid() == 0 else None
         if user:
-            shutil.chown(folder, user)
-        host = Host(folder, user)
-        primary = start_primary(psycopg2, host, held, asked.clients)
-        replica = start_replica(psycopg2, host, held, primary, asked) if asked.read_at == "replica" else None
-        servers = Servers(psycopg2, host, primary, replica, asked.isolation)
-        with ending_backends(servers, asked.kill) if asked.kill else contextlib.nullcontext():
-            return run_clients(servers, asked)
+            shutil.chown(own, user)
+        host = Host(own, user)
+        ports = {"primary": start_primary(psycopg2, host, held, asked.clients)}
+        if asked.read_at == "replica":
+            ports["replica"] = start_replica(psycopg2, host, held, ports["primary"], asked)
+        servers = Servers(psycopg2, host, asked.isolation, **ports)
+        return recipe.played(asked, folder, servers, lambda keys: turn_of(keys, "replica" in ports), [ended_backend(servers)] * asked.kill,
+                             ending=servers.end, keeps_session=asked.keep_sessions)
 
 
 def is_user(name: str) -> bool:
@@ -260,7 +231,8 @@ def main() -> int:
     ask.add_argument("--kill", type=count_within(0, 1000), default=0, metavar="N", help="ends the backend of a client N times")
     ask.add_argument("--user", default="postgres" if is_user("postgres") else "nobody", metavar="NAME",
                      help="as whom the servers run where the script runs as root; by default postgres, or else nobody")
-    return clients.write_records(recorded, clients.arguments(ask), "psycopg2", "python3-psycopg2")
+    recipe.add_keep_sessions(ask)
+    return recipe.recorded(recorded, recipe.arguments(ask), "psycopg2", "python3-psycopg2")
 
 
 if __name__ == "__main__":

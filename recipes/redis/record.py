@@ -2,32 +2,26 @@
 """Records what clients of a Redis see, for `tcc explain`.
 
 Starts two servers of its own on the loopback, a primary and a replica that follows it, and clients that take turns of two
-transactions: one writes a key at the primary, the next reads that key and others, each in a MULTI. With `--read-at
+transactions: one writes a key at the primary, the next reads that key and another one, each in a MULTI. With `--read-at
 primary` the second one reads at the primary, so every client sees all that it wrote. With `--read-at replica` it reads at
 the replica, whose link to the primary is held for the first turns: so clients don't see what they wrote themselves.
 
-Standard output has the records, standard error what was left out. Both servers are stopped in the end, whatever comes.
+Standard output has the records, standard error what was done, and what lagged. Both servers are stopped in the end, whatever comes.
 
 Needs redis-server on the path and the library redis-py (in Debian the packages redis-server and python3-redis), and the
 package in python/.
 """
 import argparse
 import contextlib
-import itertools
 import pathlib
 import shutil
-import signal
-import socket
 import sys
-import tempfile
-import threading
-from dataclasses import dataclass, field
-from typing import Callable, Sequence, Tuple, Type
+from typing import Callable, Dict, Optional, Sequence
 
 sys.path.insert(0, str(pathlib.Path(__file__).resolve().parents[2] / "python"))
-from tcc import clients  # noqa: E402
-from tcc.clients import LOOPBACK, Client, NoServer, Recorded, Store, run_clients  # noqa: E402
-from tcc.words import command_line  # noqa: E402
+from tcc.harness import (LOOPBACK, Atomic, Client, Connection, Done, Found, Link, NoServer, Server, Store, WriteThenRead, at, free_port, recipe,  # noqa: E402
+                         wait_until)
+from tcc.common.words import command_line  # noqa: E402
 
 EXAMPLE = """example: clients that read at a replica, and the rows of what they saw
   $ record.py --read-at replica > records.csv
@@ -40,129 +34,95 @@ ANSWER_SECONDS = 5
 HELD_TURNS = 10
 
 
-@dataclass
-class Link:
-    """A way for bytes to a port of the loopback, in both directions, that can be held."""
+class Multi(Connection):
+    """A connection that is used for one session alone, and does nothing twice; what is more than one step is a MULTI."""
 
-    port: int
-    free: threading.Event = field(default_factory=threading.Event)
+    def __init__(self, port: int):
+        from redis import Redis
+        from redis.backoff import NoBackoff
+        from redis.retry import Retry
+        self.redis = Redis(LOOPBACK, port, single_connection_client=True, socket_timeout=ANSWER_SECONDS, retry=Retry(NoBackoff(), 0))
 
-    def open(self, held: contextlib.ExitStack) -> int:
-        """Listens, and gives the port at which it does."""
-        self.free.set()
-        listening = held.enter_context(socket.create_server((LOOPBACK, 0)))
-        threading.Thread(target=self._serve, args=(listening,), daemon=True).start()
-        return listening.getsockname()[1]
+    def read(self, key: str) -> Found:
+        return self.request([key], {}).found[0]
 
-    def _serve(self, listening: socket.socket) -> None:
-        with contextlib.suppress(OSError):
-            while True:
-                one, _ = listening.accept()
-                other = socket.create_connection((LOOPBACK, self.port))
-                for source, target in ((one, other), (other, one)):
-                    threading.Thread(target=self._carry, args=(source, target), daemon=True).start()
+    def write(self, key: str, value: int) -> Optional[int]:
+        return self.request([], {key: value}).version
 
-    def _carry(self, source: socket.socket, target: socket.socket) -> None:
-        with contextlib.suppress(OSError), source, target:
-            while data := source.recv(65536):
-                self.free.wait()
-                target.sendall(data)
+    def request(self, reads: Sequence[str], writes: Dict[str, int]) -> Done:
+        with self.redis.pipeline(transaction=True) as steps:
+            for key in reads:
+                steps.get(key)
+            for key, value in writes.items():
+                steps.set(key, value)
+            return Done([Found(int(value)) if value else Found() for value in steps.execute()[:len(reads)]])
+
+    def close(self) -> None:
+        self.redis.close()
 
 
-def start(held: contextlib.ExitStack, *words: str) -> int:
+class Servers(Store):
+    """The primary, and the replica that is read at."""
+
+    atomic = Atomic.REQUEST
+
+    def __init__(self, **ports: int):
+        import redis.exceptions
+        self.ports, self.nodes, self.broken = ports, tuple(ports), (redis.exceptions.RedisError,)
+
+    def connect(self, node: str) -> Multi:
+        return Multi(self.ports[node])
+
+    def wait_for(self, node: str, is_so: Callable[..., bool], otherwise: str) -> None:
+        """Waits until the server answers what is wanted."""
+        def answers() -> bool:
+            with contextlib.closing(self.connect(node)) as one:
+                return is_so(one.redis)
+        wait_until(answers, self.broken, START_SECONDS, otherwise)
+
+
+def start(held: contextlib.ExitStack, folder: pathlib.Path, node: str, *words: str) -> int:
     """Starts a server in an empty folder of its own, to be stopped with `held`, and gives its port."""
-    port = clients.free_port()
-    folder = held.enter_context(tempfile.TemporaryDirectory())
-    command = ["redis-server", "--port", str(port), "--bind", LOOPBACK, "--dir", folder, "--save", "", "--appendonly", "no",
-               "--repl-diskless-sync", "yes", "--repl-diskless-sync-delay", "0", *words]
-    clients.start(held, command, signal.SIGTERM, ANSWER_SECONDS)
+    port = free_port()
+    (folder / node).mkdir()
+    server = Server(node, ["redis-server", "--port", str(port), "--bind", LOOPBACK, "--dir", str(folder / node), "--save", "", "--appendonly", "no",
+                           "--repl-diskless-sync", "yes", "--repl-diskless-sync-delay", "0", *words])
+    held.callback(server.start().end)
     return port
 
 
-def connection(redis, port: int):
-    """A connection that is used for one session alone, and does nothing twice."""
-    from redis.backoff import NoBackoff
-    from redis.retry import Retry
-    return redis.Redis(LOOPBACK, port, single_connection_client=True, socket_timeout=ANSWER_SECONDS,
-                       retry=Retry(NoBackoff(), 0))
+def freed_after(link: Link, turns: int, workload: WriteThenRead) -> Callable[[Client], None]:
+    """The workload; the link is held until there were so many turns."""
+    link.hold()
+    left = iter(range(turns))
+
+    def turn(client: Client) -> None:
+        workload(client)
+        if next(left, None) is None:
+            link.let_go()
+    return turn
 
 
-def wait_for(redis, port: int, is_so: Callable[..., bool], otherwise: str) -> None:
-    """Waits until the server answers what is wanted."""
-    def answered() -> bool:
-        with connection(redis, port) as server:
-            return is_so(server)
-    clients.wait_until(answered, (redis.exceptions.RedisError,), START_SECONDS, otherwise)
-
-
-@dataclass
-class Servers(Store):
-    """Where clients write, and where they read; the link between is held until there were so many turns."""
-
-    redis: object
-    write_at: int
-    read_at: int
-    link: Link
-    held: int = 0
-    turns: "itertools.count[int]" = field(default_factory=lambda: itertools.count(1))
-
-    def broken(self) -> Tuple[Type[Exception], ...]:
-        return (self.redis.exceptions.RedisError,)
-
-    def connections(self, held: contextlib.ExitStack) -> Sequence:
-        return [held.enter_context(connection(self.redis, port)) for port in (self.write_at, self.read_at)]
-
-    def turn(self, client: Client, connections: Sequence) -> None:
-        write_at, read_at = connections
-        read(client, read_at, write(client, write_at), "primary" if self.read_at == self.write_at else "replica")
-        if next(self.turns) >= self.held:
-            self.link.free.set()
-
-
-def write(client: Client, server) -> str:
-    """Writes a new value at a key, which it gives; all is sent in one step, so what breaks there is of unknown outcome."""
-    key, value = client.some_key(), client.new_value()
-    with client.transaction("primary") as mine, server.pipeline(transaction=True) as steps:
-        steps.set(key, value)
-        mine.write(key, value)
-        mine.committing()
-        steps.execute()
-    return key
-
-
-def read(client: Client, server, key: str, node: str) -> None:
-    """Reads the key and another one; what can't be read isn't recorded."""
-    keys = [key, client.some_key()]
-    with client.transaction(node) as mine, server.pipeline(transaction=True) as steps:
-        for one in keys:
-            steps.get(one)
-        for one, value in zip(keys, steps.execute()):
-            mine.read(one, int(value or 0))
-
-
-def recorded(asked: argparse.Namespace) -> Recorded:
+def recorded(asked: argparse.Namespace, folder: str) -> recipe.Played:
     """Starts the servers, lets the clients work, stops the servers."""
-    import redis.exceptions
     if not shutil.which("redis-server"):
         raise NoServer("no redis-server on the path")
     with contextlib.ExitStack() as held:
-        primary = start(held)
-        wait_for(redis, primary, lambda server: server.ping(), "the primary didn't answer")
+        primary = start(held, pathlib.Path(folder), "primary")
+        Servers(primary=primary).wait_for("primary", lambda server: server.ping(), "the primary didn't answer")
         link = Link(primary)
-        replica = start(held, "--replicaof", "%s %d" % (LOOPBACK, link.open(held)))
-        held.callback(link.free.set)
-        wait_for(redis, replica, lambda server: server.info("replication")["master_link_status"] == "up",
-                 "the replica didn't follow")
-        if asked.read_at == "primary":
-            return run_clients(Servers(redis, primary, primary, link), asked)
-        link.free.clear()
-        return run_clients(Servers(redis, primary, replica, link, HELD_TURNS * asked.clients), asked)
+        store = Servers(primary=primary, replica=start(held, pathlib.Path(folder), "replica", "--replicaof", "%s %d" % (LOOPBACK, link.open(held))))
+        store.wait_for("replica", lambda server: server.info("replication")["master_link_status"] == "up", "the replica didn't follow")
+        turns = HELD_TURNS * asked.clients if asked.read_at == "replica" else 0
+        return recipe.played(asked, folder, store, lambda keys: freed_after(link, turns, WriteThenRead(keys, at("primary"), at(asked.read_at))),
+                             keeps_session=asked.keep_sessions)
 
 
 def main() -> int:
     ask = command_line(__doc__, EXAMPLE)
     ask.add_argument("--read-at", choices=("primary", "replica"), default="replica", help="where is read; by default the replica")
-    return clients.write_records(recorded, clients.arguments(ask), "redis-py", "python3-redis")
+    recipe.add_keep_sessions(ask)
+    return recipe.recorded(recorded, recipe.arguments(ask), "redis-py", "python3-redis")
 
 
 if __name__ == "__main__":

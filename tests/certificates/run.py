@@ -10,6 +10,8 @@ check`, or `tcc check --large`, has to answer of each is worked out from docs/FO
 `definitions.py`, `rules.py`); and what `tcc explain --large` writes of these histories, past the small limits, has to be the text
 that is worked out of an order, and accepted of a cycle.
 
+The same is asked of `python3 -m tcc.recheck`, which shares nothing with the program, about each of these texts.
+
 Each difference is one line; the last line is `N passed, M failed`.
 """
 import argparse
@@ -22,8 +24,9 @@ import sys
 import tempfile
 
 TOP = pathlib.Path(__file__).resolve().parent.parent.parent
-sys.path.insert(0, str(TOP / "tests"))
+sys.path[:0] = [str(TOP / "tests"), str(TOP / "python" / "tcc")]
 import limits  # noqa: E402
+import recheck  # noqa: E402  (which needs nothing else of its package)
 from claims import altered, claims, order_text, own_claim, runs_of  # noqa: E402
 from counted import status_of  # noqa: E402
 from machine import processors  # noqa: E402
@@ -111,22 +114,23 @@ class Judge:
             file.write(records)
         self.records, self.path = records, file.name
 
-    def answer(self, text):
-        """What the program says of a certificate: its line and its status."""
+    def answers(self, text):
+        """What the program says of a certificate, and what the second opinion does: their lines and statuses."""
         with tempfile.NamedTemporaryFile(dir=self.folder, buffering=0) as file:
             file.write(text)
             run = subprocess.run([*self.words, self.path, file.name], capture_output=True, timeout=300, check=False)
-        return run.stdout.decode(errors="backslashreplace"), run.returncode
+            line, status = recheck.checked(self.path, file.name, self.versions == ANY)
+        return (run.stdout.decode(errors="backslashreplace"), run.returncode), (line + "\n", status)
 
     def differences(self, cases):
         """For each text what was done to it, and what is wrong with the program's answer, or None."""
         cases = list(cases)
-        for (what, text), answer in zip(cases, self.pool.map(self.answer, (text for _, text in cases))):
+        for (what, text), answers in zip(cases, self.pool.map(self.answers, (text for _, text in cases))):
             wanted = outcome(self.history, text, self.versions)
             if what == "as it is" and wanted[1] != 0:
                 yield what, "no certificate was written, but %r" % text
             else:
-                yield what, None if answer == wanted else "wanted %r, got %r, of %r" % (wanted, answer, text)
+                yield what, None if answers == (wanted, wanted) else "wanted %r, got %r and rechecked %r, of %r" % (wanted, *answers, text)
 
 
 def with_digits(tcc, folder, pool):
@@ -167,7 +171,7 @@ def wrongly_written(tcc, judge, level, folder):
     wanted = outcome(past.history, text, ANY)
     claimed = ["accepted: cycle, %d steps\n" % least] + ["accepted: cycle, %d steps, least not claimed\n" % least] * (least > 4)
     is_right = answer.startswith("anomaly: %d steps, " % least) and wanted[0] in claimed
-    return None if wanted[1] == 0 and is_right and past.answer(text) == wanted else "of a cycle: %r" % text
+    return None if wanted[1] == 0 and is_right and past.answers(text) == (wanted, wanted) else "of a cycle: %r" % text
 
 
 def outcomes(tcc, count, seed):

@@ -1,5 +1,5 @@
 #!/usr/bin/env python3
-"""docs/claims/, which has a page for each main claim, from the sources.
+"""docs/made/claims/, which has a page for each main claim, from the sources.
 
     claims.py [--write]
 
@@ -21,7 +21,7 @@ from counted import Outcome  # noqa: E402
 from imports import LINE, imports  # noqa: E402
 from trust import CALL, HEAD, WORD, Definition, Names, contract, definitions  # noqa: E402
 
-PAGES = TOP / "docs/claims"
+PAGES = TOP / "docs/made/claims"
 TYPE = re.compile(r"^pub (?:enum|struct) (\w+)", re.MULTILINE)
 
 
@@ -54,8 +54,18 @@ CLAIMS = (
           "The main theorem of a run with `--large`, of records up to the large limits.",
           (("tcc_run/src/large/laws.rt", "headline"),)),
     Claim("survey", "What `tcc survey` prints",
-          "What a run of the survey says of the bytes that it reads and writes.",
+          "What a run of the survey says of the bytes that it reads and writes, within the default limits or the large ones (`large`).",
           (("tcc_survey_run/src/running.rt", "run_survey"), ("tcc_survey_run/src/running.rt", "run_survey_watched"))),
+    Claim("watch", "What `tcc watch` prints",
+          "What a watch says at each seal and at the end, by what all records up to there finish. It answers what `tcc explain "
+          "--large` does, but an order of a consistent history is left out, and an anomaly is printed once.",
+          (("tcc_watch_run/src/running.rt", "run_watch"),)),
+    Claim("quiet", "What `tcc explain --large --quiet` prints",
+          "The same run as with `--large`, without files, whose consistent answers have no order.",
+          (("tcc_watch_run/src/quiet.rt", "run_quiet"),)),
+    Claim("full", "What `tcc explain --full` prints",
+          "One line of JSON with all about the answer to the whole of the records.",
+          (("tcc_full/src/running.rt", "run_full"),)),
 )
 
 
@@ -138,8 +148,8 @@ def page(claim: Claim, earlier: Dict[Definition, str]) -> Tuple[str, Dict[Defini
     found = ordered(said)
     fresh = [one for one in found if one not in earlier]
     parts = ["# %s\n" % claim.title, claim.words + "\n",
-             "`tests/docs/claims.py --write` writes this page from the sources. [HEADLINE.md](../HEADLINE.md) says under which premises it "
-             "holds, and [MODEL.md](../MODEL.md) has the definitions in words.\n", "## The clauses\n"]
+             "`tests/docs/claims.py --write` writes this page from the sources. [HEADLINE.md](../../HEADLINE.md) says under which premises it "
+             "holds, and [MODEL.md](../../MODEL.md) has the definitions in words.\n", "## The clauses\n"]
     for (file, name), (_, text) in zip(claim.calls, said):
         parts.append("`%s` (`crates/%s`):\n\n```rust\n%s\n```\n" % (name, file, text))
     rest = collections.Counter(earlier[one] for one in found if one in earlier)
@@ -191,7 +201,7 @@ def write() -> None:
 
 
 def main() -> int:
-    return status_of_written("docs/claims/, from the sources.", write, outcomes)
+    return status_of_written("docs/made/claims/, from the sources.", write, outcomes)
 
 
 if __name__ == "__main__":

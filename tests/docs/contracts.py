@@ -1,5 +1,5 @@
 #!/usr/bin/env python3
-"""docs/CONTRACTS.md, which has every public call with its contract, from the sources.
+"""docs/made/CONTRACTS.md, which has every public call with its contract, from the sources.
 
     contracts.py [--write]
 
@@ -23,7 +23,7 @@ from crates import stands_on  # noqa: E402
 from imports import imports  # noqa: E402
 from sources import root_of, with_types  # noqa: E402
 
-CONTRACTS = TOP / "docs/CONTRACTS.md"
+CONTRACTS = TOP / "docs/made/CONTRACTS.md"
 CALL = re.compile(r"( *)pub (?:const )?fn (\w+)")
 DEFINED = re.compile(r"^[a-z ]*\bpub (?:record |data )?([A-Za-z]\w*)", re.MULTILINE)
 SHAPE = re.compile(r"^[a-z ]*\bpub (?:record |data )?([A-Za-z]\w*) : Type \d+(?: where)?$", re.MULTILINE)
@@ -35,8 +35,8 @@ BEGINNING = """# Contracts
 Every public call of the libraries, in words, with the definitions that its clauses cite: of what it asks for, and of what it \
 promises. `tests/docs/contracts.py --write` writes this page from the sources. The clauses themselves are at the call, in the \
 `src/` of its crate, the definitions in the `specs/` of the crates, and [DEFINITIONS.md](DEFINITIONS.md) has them in words. \
-[HEADLINE.md](HEADLINE.md) says under which premises the words hold (memory, known bytes, joins), [PROOF.md](PROOF.md) how the main \
-theorem rests on them, and [OPEN.md](OPEN.md) what no contract says. The last row of a table has the calls whose clauses are about \
+[HEADLINE.md](../HEADLINE.md) says under which premises the words hold (memory, known bytes, joins), [PROOF.md](../PROOF.md) how the main \
+theorem rests on them, and [OPEN.md](../OPEN.md) what no contract says. The last row of a table has the calls whose clauses are about \
 their values alone, as of a part that was passed in and is returned borrowed.
 """
 HEAD = "| call | in words | its clauses cite |\n|---|---|---|\n"
@@ -153,7 +153,7 @@ def outcomes() -> Iterator[Outcome]:
         for call in calls(crate):
             yield "words of %s of %s" % (call.title, crate), None if call.words else "it has no doc comment"
     is_whole = beginning == BEGINNING + "\n" and len(there) == len(libraries())
-    yield "docs/CONTRACTS.md", None if is_whole else "it has another beginning, or a part too many"
+    yield "docs/made/CONTRACTS.md", None if is_whole else "it has another beginning, or a part too many"
 
 
 def write() -> None:
@@ -161,7 +161,7 @@ def write() -> None:
 
 
 def main() -> int:
-    return status_of_written("docs/CONTRACTS.md, from the sources.", write, outcomes)
+    return status_of_written("docs/made/CONTRACTS.md, from the sources.", write, outcomes)
 
 
 if __name__ == "__main__":

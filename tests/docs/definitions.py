@@ -1,5 +1,5 @@
 #!/usr/bin/env python3
-"""docs/DEFINITIONS.md, which has every definition that contracts cite in the words of its comment, from the sources.
+"""docs/made/DEFINITIONS.md, which has every definition that contracts cite in the words of its comment, from the sources.
 
     definitions.py [--write]
 
@@ -19,12 +19,12 @@ from claims import texts_of  # noqa: E402
 from counted import Outcome  # noqa: E402
 from crates import stands_on  # noqa: E402
 
-PAGE = TOP / "docs/DEFINITIONS.md"
+PAGE = TOP / "docs/made/DEFINITIONS.md"
 ANEW = "tests/docs/definitions.py --write"
 BEGINNING = """# Definitions
 
 Every definition that the contracts of public calls cite, in the words of its own comment, by crate and file: \
-`tests/docs/definitions.py --write` writes this page from the sources. [MODEL.md](MODEL.md) explains the main ones, \
+`tests/docs/definitions.py --write` writes this page from the sources. [MODEL.md](../MODEL.md) explains the main ones, \
 [CONTRACTS.md](CONTRACTS.md) says which call cites which, and [claims/](claims/explain.md) have them as they are written.
 """
 RULER = re.compile(r"^-- -{2,}")
@@ -77,7 +77,7 @@ def write() -> None:
 
 
 def main() -> int:
-    return status_of_written("docs/DEFINITIONS.md, from the sources.", write, outcomes)
+    return status_of_written("docs/made/DEFINITIONS.md, from the sources.", write, outcomes)
 
 
 if __name__ == "__main__":

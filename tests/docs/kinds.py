@@ -299,7 +299,7 @@ WRITTEN: Tuple[Tuple[str, str, Callable[[], str]], ...] = (
     ("docs/answer.schema.json", r'"kind": \{\s*"enum": \[\s*"Duplicate"[^]]*\]\s*\}', reads_of_schema),
     ("docs/full.schema.json", r'"kind": \{\s*"enum": \[\s*"FieldCount"[^]]*\]\s*\}', rows_of_schema),
     ("docs/full.schema.json", r'"kind": \{\s*"enum": \[\s*"Duplicate"[^]]*\]\s*\}', reads_of_schema),
-    ("python/tcc/kinds.py", "", of_package),
+    ("python/tcc/common/kinds.py", "", of_package),
     ("tests/rows/cases/row-faults-as-json.json", "", as_json),
     ("tests/rows/cases/check-row-faults.json", "", of_check),
 )

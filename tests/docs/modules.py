@@ -3,7 +3,7 @@
 
     modules.py [--write]
 
-docs/MODULES.md has a row for each module but those of tests and benchmarks: its path in `src/`, and the first sentence of its
+docs/made/MODULES.md has a row for each module but those of tests and benchmarks: its path in `src/`, and the first sentence of its
 `//!`. Above them it has that of the crate's root, and what the crate depends on, as crates.txt has it. With `--write` the page is
 written anew. Without it a page that is another is one line, as `run.py` has it, which asks this too. So is a module whose first
 sentence is missing, has more than 60 words, or is that of another one in its crate. The last line is `N passed, M failed`.
@@ -19,12 +19,12 @@ from arguments import status_of_written  # noqa: E402
 from counted import Outcome  # noqa: E402
 from crates import stands_on  # noqa: E402
 
-PAGE = TOP / "docs/MODULES.md"
+PAGE = TOP / "docs/made/MODULES.md"
 BEGINNING = """# Modules
 
 What each crate and each of its modules is, as it says itself, and what each crate depends on directly: \
 `tests/docs/modules.py --write` writes this page from the sources. \
-[ARCHITECTURE.md](ARCHITECTURE.md) says how the crates go together.
+[ARCHITECTURE.md](../ARCHITECTURE.md) says how the crates go together.
 """
 MOST_WORDS = 60
 SENTENCE = re.compile(r"(.*?[.])(?:\s|$)")

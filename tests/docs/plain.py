@@ -25,9 +25,8 @@ TOP = pathlib.Path(__file__).resolve().parent.parent.parent
 sys.path.insert(0, str(TOP / "tests"))
 from counted import Outcome, status_of  # noqa: E402
 
-MADE = {"CONTRACTS.md", "DEFINITIONS.md", "MODULES.md"}
 PAGE, GLOSSARY = TOP / "docs/tcc.1", TOP / "docs/GLOSSARY.md"
-AVERAGE, LONGEST, MOST = 18, 35, 24000
+AVERAGE, LONGEST, MOST = 18, 35, 27000
 FENCED = re.compile(r"```.*?```", re.DOTALL)
 SPAN = re.compile(r"`[^`\n]+`")
 BOLD = re.compile(r"\\fB.*?\\fR")
@@ -236,10 +235,10 @@ def faults_of_patterns() -> Iterator[Outcome]:
 
 
 def documents() -> List[pathlib.Path]:
-    """What is asked: all documents that no script makes."""
+    """What is asked: all documents but those of docs/made/, which scripts make."""
     found = [TOP / "README.md", TOP / "CHANGELOG.md", TOP / "CONTRIBUTING.md", TOP / "tests/rows/README.md", *(TOP / "docs").glob("*.md"),
              *TOP.glob("*/README.md")]
-    return sorted(path for path in found if path.name not in MADE)
+    return sorted(found)
 
 
 def outcomes() -> Iterator[Outcome]:

@@ -11,16 +11,17 @@ it names one, and what is in backquotes has to be there where it is
     a crate               `tcc_run`
     a name of a crate     `tcc_run::explain_snapshot`: its last word is in the sources of that crate
     a call of a type      `Book::new`: its last word is in some source
-    a definition          `IsFirstOrder`, and any name of several humps: some source has it, or it is a file of proofs
+    a definition          `IsFirstOrder`, and any name of several humps: some source has it, or it is a file of proofs or a class of the package
     a name before a file  `answer_text` (`tcc_answer/specs`), or of it: the files there have the name
-    a name of a claim     [check](claims/check.md) has `IsWalk`: that page defines it
+    a name of a claim     [check](made/claims/check.md) has `IsWalk`: that page defines it
 
-ARCHITECTURE has to have each crate in a layer. CONTRACTS, DEFINITIONS, MODULES and the pages of claims/ have to be what the sources
+The picture of the layers has to be that of crates.txt (`layers.py`), and the root of a crate has to say what must hold in it
+(`callers.py`). CONTRACTS, DEFINITIONS, MODULES and the pages of claims/ have to be what the sources
 give (`contracts.py`, `definitions.py`, `modules.py`, `claims.py`). So have the examples in doc comments (`examples.py`), and what
 documents say about statuses and limits (`told.py`), and what names the kinds of faults (`kinds.py`). Sentences have to be short,
-and words usual (`plain.py`). The public names that callers rely on have to be there (`surface.py`), and the JSON schema of answers
-has to be that of the answers in the rows (`schema.py`). What has to be believed is in `specs/`, and nothing else is (`trust.py`).
-No file of code may see two types by one name (`names.py`).
+and words usual (`plain.py`). The public names that callers rely on have to be there (`surface.py`), in the forms that DECISIONS has
+(`forms.py`), and the JSON schema of answers has to be that of the answers in the rows (`schema.py`). What has to be believed is in
+`specs/`, and nothing else is (`trust.py`). No file of code may see two types by one name (`names.py`).
 CHANGELOG is about the past, and is left out. No script may define a name twice at one level, and what a mutant replaces has to be
 once in its file. The man page and the completion for bash have to name each command and option of the program's help, and the
 completion to complete them. The stack that docs/GUIDE.md names has to be enough, and what documents show of the program is what it
@@ -41,11 +42,14 @@ from typing import Dict, Iterator, List, Optional, Tuple
 
 TOP = pathlib.Path(__file__).resolve().parent.parent.parent
 sys.path[:0] = [str(TOP / "tests"), str(TOP / "tests/wrong")]
+import callers  # noqa: E402
 import claims  # noqa: E402
 import contracts  # noqa: E402
 import definitions  # noqa: E402
 import examples  # noqa: E402
+import forms  # noqa: E402
 import kinds  # noqa: E402
+import layers  # noqa: E402
 import modules  # noqa: E402
 import names  # noqa: E402
 import plain  # noqa: E402
@@ -54,7 +58,6 @@ import surface  # noqa: E402
 import told  # noqa: E402
 from arguments import ask_for_tcc  # noqa: E402
 from counted import Outcome, status_of  # noqa: E402
-from crates import stands_on  # noqa: E402
 from mutants import Mutant, Unusable  # noqa: E402
 from trust import HEAD, QUOTED, faults_of_trust  # noqa: E402
 
@@ -74,8 +77,7 @@ OF_CRATE = re.compile(r"(tcc_[a-z_]+)(?:::[A-Za-z_]+)*::([A-Za-z_]+)")
 OF_TYPE = re.compile(r"[A-Z][A-Za-z]+::([A-Za-z_]+)")
 HUMPS = re.compile(r"(?:[A-Z][a-z]+){2,}")
 BEFORE_FILE = re.compile(r"`([A-Za-z_]+)` (?:\(|of )`((?:tcc_[a-z_]+)(?:/[A-Za-z_./]+)?)`")
-CLAIMED = re.compile(r"\]\((claims/\w+\.md)\) has ([^.]*)\.")
-WORD = re.compile(r"`([a-z0-9_/]+)`")
+CLAIMED = re.compile(r"\]\((made/claims/\w+\.md)\) has ([^.]*)\.")
 LEVELS = (ast.Module, ast.ClassDef, ast.FunctionDef)
 # Types of the toolchain, and files that a reader has, makes or names.
 ELSEWHERE = {"Vec", "String", "Option", "Result", "Ordering", "Rattle"}
@@ -117,6 +119,12 @@ def words(crate: str, part: str) -> frozenset:
                      for word in re.findall(r"[\w-]+", path.read_text(errors="replace")))
 
 
+@functools.lru_cache(maxsize=None)
+def of_package() -> frozenset:
+    """The classes of the package in Python."""
+    return frozenset(name for path in (TOP / "python/tcc").rglob("*.py") for name in re.findall(r"^class (\w+)", path.read_text(), re.MULTILINE))
+
+
 def is_there(path: str) -> bool:
     return any(one.rstrip("/").endswith("/" + path.rstrip("/")) for one in files())
 
@@ -134,7 +142,7 @@ def outcome_of_name(name: str) -> Iterator[Optional[str]]:
     elif of_type and name.split("::")[0] not in ELSEWHERE:
         yield None if of_type.group(1) in words("", "") else "no source has it"
     elif HUMPS.fullmatch(name):
-        yield None if name in words("", "") or is_there(name + ".antt") else "no source has it"
+        yield None if name in words("", "") or name in of_package() or is_there(name + ".antt") else "no source has it"
 
 
 def faults_of_names(line: str) -> Iterator[Outcome]:
@@ -193,22 +201,6 @@ def faults_of_document(document: pathlib.Path) -> Iterator[Outcome]:
             yield "%s, line %d: %s" % (document.relative_to(TOP), number, what), wrong
 
 
-def table(heading: str) -> Iterator[List[str]]:
-    """The cells of the rows of ARCHITECTURE's table that begins so."""
-    text = (TOP / "docs/ARCHITECTURE.md").read_text().partition(heading)[2].partition("\n\n")[0]
-    for line in text.splitlines()[2:]:
-        yield [cell.strip() for cell in line.strip("|").split("|")]
-
-
-def faults_of_crates() -> Iterator[Outcome]:
-    """Whether the table of crates has each one."""
-    told = {name for cells in table("| layer | crates |") for name in WORD.findall(cells[1])}
-    for crate in stands_on():
-        yield "crate %s" % crate, None if crate in told else "ARCHITECTURE has it in no layer"
-    for crate in sorted(told - set(stands_on())):
-        yield "crate %s" % crate, "ARCHITECTURE has it, and crates.txt no such crate"
-
-
 def defined(level: ast.AST) -> Iterator[str]:
     """The names that a level of a script defines: functions, classes, and but for the level of a function constants."""
     for one in level.body:
@@ -240,8 +232,8 @@ def faults_of_scripts() -> Iterator[Outcome]:
 
 
 def documents() -> List[pathlib.Path]:
-    found = [TOP / "README.md", TOP / "CONTRIBUTING.md", *(TOP / "docs").glob("*.md"), *TOP.glob("*/README.md"),
-             TOP / "tests/rows/README.md"]
+    found = [TOP / "README.md", TOP / "CONTRIBUTING.md", *(TOP / "docs").glob("*.md"), *(TOP / "docs/made").glob("*.md"),
+             *TOP.glob("*/README.md"), TOP / "tests/rows/README.md"]
     return sorted(set(found))
 
 
@@ -305,7 +297,8 @@ def outcomes(tcc: List[str]) -> Iterator[Outcome]:
     for document in documents():
         yield from faults_of_document(document)
     yield from modules.outcomes()
-    yield from faults_of_crates()
+    yield from layers.outcomes()
+    yield from callers.outcomes()
     yield from contracts.outcomes()
     yield from claims.outcomes()
     yield from definitions.outcomes()
@@ -314,6 +307,7 @@ def outcomes(tcc: List[str]) -> Iterator[Outcome]:
     yield from kinds.outcomes()
     yield from plain.outcomes()
     yield from surface.outcomes()
+    yield from forms.outcomes()
     yield from schema.outcomes()
     yield from faults_of_trust()
     yield from names.outcomes()
@@ -331,7 +325,7 @@ def main() -> int:
     ask = ask_for_tcc("Whether what the documents name is there.")
     ask.add_argument("--write", action="store_true", help="writes the pages that scripts write anew first")
     asked = ask.parse_args()
-    for page in (kinds, contracts, claims, definitions, modules, examples, told) if asked.write else ():
+    for page in (kinds, callers, contracts, claims, definitions, modules, layers, examples, told, forms) if asked.write else ():
         page.write()
     return status_of(outcomes(asked.tcc))
 

@@ -158,7 +158,7 @@ def believed() -> Dict[Definition, str]:
 @functools.lru_cache(maxsize=None)
 def named() -> FrozenSet[str]:
     """What is in backquotes in the documents, but for the page that has every definition."""
-    texts = (path.read_text() for path in (CRATES.parent / "docs").glob("*.md") if path.name != "DEFINITIONS.md")
+    texts = (path.read_text() for path in [*(CRATES.parent / "docs").glob("*.md"), *(CRATES.parent / "docs/made").glob("*.md")] if path.name != "DEFINITIONS.md")
     return frozenset(name for text in texts for name in QUOTED.findall(text))
 
 

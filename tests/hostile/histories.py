@@ -17,6 +17,17 @@ class Hard(NamedTuple):
     begins: str
 
 
+class Settled(NamedTuple):
+    """Records with unknown outcomes, and others that end in a commit where those don't: what there is much of, the words of the run,
+    both, and how the answer to the first begins."""
+
+    name: str
+    words: List[str]
+    records: str
+    committed: str
+    begins: str
+
+
 class Claimed(NamedTuple):
     """A certificate: what it has many of, the records that it is for, its text in pieces, and how the verdict begins."""
 
@@ -264,6 +275,19 @@ def read_from_one_another() -> Transactions:
     yield "b", ["r,x,1", "w,y,1", "r,z,0"]
 
 
+def unread(ending: str, transactions: int, writes: int, seals: int, between: bool) -> str:
+    """The records of many transactions that end so, of values that nobody reads, and then of seals, perhaps with a transaction
+    before each."""
+    lines = []
+    for n in range(transactions):
+        lines.append("u%d,begin" % n)
+        lines.extend("u%d,w,x%d,%d" % (n, key, n + 1) for key in range(writes))
+        lines.append("u%d,%s" % (n, ending))
+    for n in range(seals):
+        lines.extend(["a,begin", "a,w,y,%d" % (n + 1), "a,commit", "seal"] if between else ["seal"])
+    return "\n".join(lines) + "\n"
+
+
 def ordinary(size: int) -> str:
     """A history with at least this many bytes: 32 sessions, of whose transactions each writes a key and reads the last value of
     another one."""
@@ -313,6 +337,16 @@ def hard() -> Iterator[Hard]:
     yield Hard("surveyed: known by a chain, small", ["survey"], records_of(known_by_chain(2040, 2040)),
                "contradicted c/2 op 1 x 1: knew of b/1, causal chain\n")
     yield Hard("a session each", large, records_of(each_its_own(60000)), "consistent: 60000 transactions, 60000 sessions\n")
+
+
+def settled() -> Iterator[Settled]:
+    """Histories in which each seal may look again at what was of unknown outcome before, or at what was read."""
+    for name, sizes, first in (
+            ("unread ones before many seals", (5000, 1, 5000, False), "consistent: 0 transactions, 0 sessions\n"),
+            ("unread ones of many writes", (100, 250, 1000, True), "consistent: 1 transactions, 1 sessions\n")):
+        records, committed = (unread(ending, *sizes) for ending in ("unknown", "commit"))
+        yield Settled(name, ["watch"], records, committed, first)
+        yield Settled(name + ", surveyed", ["survey", "--large"], records, committed, "0 contradicted reads of 0, 0 faults\n")
 
 
 def hard_to_check() -> Iterator[Tuple[str, str]]:

@@ -7,9 +7,11 @@ Values of one key that hash alike, and names of keys and sessions that do, may t
 many others, and have the same answers. Long records, and many faults, may take no more than some times their bytes of memory, and a
 long answer no more than some times its own. All about an answer may take no more than some times the memory of the answer.
 Histories that have many of what some loop goes through (`histories.py`) may take no more than ten times the processor time of an
-ordinary one of as many bytes, and so may the check of what is answered for some. A certificate of many links, steps or runs, or of a
-walk that goes round, may take no more than some times its bytes of memory. The values and names are made by `alike.c`, which needs a C
-compiler on the path (`cc` or `clang`); where there is none it says so and has failed. Each difference is one line; the last line is `N passed, M failed`.
+ordinary one of as many bytes, and so may the check of what is answered for some. Unknown outcomes before many seals may take no more
+than one and a half times the processor time of commits, and answers at many seals no more than ten times that of one answer without
+seals. A certificate of many links, steps or runs, or of a walk that goes round, may take no more than some times its bytes of memory.
+The values and names are made by `alike.c`, which needs a C compiler on the path (`cc` or `clang`); where there is none it says so and
+has failed. Each difference is one line; the last line is `N passed, M failed`.
 """
 import itertools
 import os
@@ -24,7 +26,7 @@ TOP = HERE.parent.parent
 sys.path.insert(0, str(TOP / "tests"))
 from arguments import status_on_tcc  # noqa: E402
 from compared import first_difference, shown  # noqa: E402
-from histories import claims, gathered, hard, hard_to_check, ordinary, records_of, walked  # noqa: E402
+from histories import claims, gathered, hard, hard_to_check, ordinary, records_of, settled, walked  # noqa: E402
 
 WRITERS, WRITES = 400, 250
 KEYS, SESSIONS = 1024, 64
@@ -33,6 +35,12 @@ TIMES, BESIDE = 3, 0.5
 MEGABYTE, LONG = 1 << 20, 16
 # So many times the processor time of an ordinary history, and so many seconds beside it, may a hard one take.
 TIMES_ORDINARY, BESIDE_ORDINARY = 10, 4.0
+# So many times the processor time of the same with commits, and so many seconds beside it, may unknown outcomes take.
+TIMES_COMMITTED, BESIDE_COMMITTED = 1.5, 0.3
+# So many transactions of two sessions in turn, with a seal after each so many, and where the value comes for which a third one waits.
+TURNS, SEALED, WAITED = 66_000, 100, 1_000
+# So many times the processor time of one answer, and so many seconds beside it, may answers at all these seals take.
+TIMES_ONE, BESIDE_ONE = 10, 1.0
 # The bytes of memory that a long answer may take for each of its own.
 BESIDE_ANSWER = 4
 # The bytes of memory that the check of a certificate may take for each byte of it.
@@ -179,6 +187,16 @@ def harder(tcc, one):
     return "%.2f seconds, and %.2f for an ordinary one" % (took, usual) if took > most else None
 
 
+def slowed(tcc, one):
+    """What is wrong with the answer to unknown outcomes, or with its time beside that of the same with commits; None if nothing is."""
+    _, _, usual, _ = run(tcc, one.words, [one.committed.encode()])
+    got, said, took, _ = run(tcc, one.words, [one.records.encode()])
+    if got != 0 or not said.startswith(one.begins.encode()):
+        return "status %d, standard output %s" % (got, shown(said[:200]))
+    most = TIMES_COMMITTED * usual + BESIDE_COMMITTED
+    return "%.2f seconds, and %.2f with commits" % (took, usual) if took > most else None
+
+
 def certified(tcc, records, folder):
     """The paths of a history and of the certificate of its answer."""
     history, certificate = (os.path.join(folder, name) for name in ("history", "certificate"))
@@ -198,6 +216,47 @@ def checked(tcc, records):
         seconds.append(took)
     most = TIMES_ORDINARY * seconds[0] + BESIDE_ORDINARY
     return "%.2f seconds, and %.2f for an ordinary one" % (seconds[1], seconds[0]) if seconds[1] > most else None
+
+
+def in_turn(is_sealed, waits):
+    """The records of two sessions that read from each other in turn, perhaps with seals. A session that waits read a value at the beginning
+    that comes only after a thousand transactions."""
+    if waits:
+        yield transaction("w", ["r,z,1"]).encode()
+    for number in range(1, TURNS + 1):
+        session, other = "pq" if number % 2 else "qp"
+        operations = ["r,%s,%d" % (other, number - 1), "w,%s,%d" % (session, number)]
+        yield transaction(session, operations + (["w,z,1"] if waits and number == WAITED else [])).encode()
+        if is_sealed and number % SEALED == 0:
+            yield b"seal\n"
+
+
+def answers_in_turn(waits):
+    """What is answered at these seals: while the session waits its read is one of a value that nobody wrote."""
+    for number in range(SEALED, TURNS + 1, SEALED):
+        if waits and number < WAITED:
+            yield b"unresolved: 1 faults\nThinAir w/1 op 1 z 1\n"
+        else:
+            yield b"consistent: %d transactions, %d sessions\n" % (number + waits, 2 + waits)
+
+
+# Words that answer at each seal, and whether a session waits.
+WATCHED = [
+    ("a watch", ["watch"], False),
+    ("a watch while a session waits", ["watch"], True),
+    ("quiet answers", ["explain", "--large", "--quiet"], False),
+]
+
+
+def watched(tcc, words, waits):
+    """What is wrong with answers at many seals, or with their time beside that of one answer; None if nothing is."""
+    _, _, usual, _ = run(tcc, ["explain", "--large", "--quiet"], in_turn(False, waits))
+    status, said, took, _ = run(tcc, words, in_turn(True, waits))
+    wrong = first_difference("standard output", b"".join(answers_in_turn(waits)), said)
+    if status != 0 or wrong:
+        return wrong or "status %d" % status
+    most = TIMES_ONE * usual + BESIDE_ONE
+    return "%.2f seconds, and %.2f for one answer" % (took, usual) if took > most else None
 
 
 def claimed(tcc, one):
@@ -225,6 +284,10 @@ def outcomes(tcc):
         yield name, fuller(tcc, *full)
     for one in hard():
         yield one.name, harder(tcc, one)
+    for one in settled():
+        yield one.name, slowed(tcc, one)
+    for name, *asked in WATCHED:
+        yield name, watched(tcc, *asked)
     for name, records in hard_to_check():
         yield "checked: " + name, checked(tcc, records)
     compiler = shutil.which("cc") or shutil.which("clang")

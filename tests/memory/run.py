@@ -8,7 +8,7 @@ Where a transaction of the recorders is refused it is recorded again, and they s
 allocations of all runs are the same, each recorder's last one has to be among these, with all answers.
 
 Two workers share the allocations out anew in each run: there the refusals go on until so many runs in a row as CALM says had
-no allocation left to refuse. A thread that is refused changes no answer.
+no allocation left to refuse. A thread that is refused changes no answer. An order by several workers has to start threads.
 
 Needs a C compiler on the path (`cc` or `clang`); where there is none it says so and has failed. Each difference is one
 line; the last line is `N passed, M failed`, a run a refused allocation.
@@ -175,7 +175,11 @@ def limits_table():
     return ("%-28s%12s%14s\n" % ("at most", "by default", "with --large") + "".join(lines)).encode()
 
 
-FILES = {"certificate": FORK_CERTIFICATE, "two-stale-reads": TWO_STALE_READS, "large-order": LARGE_ORDER, "large-cycle": LARGE_CYCLE,
+# Sessions in three blocks of 64 at most, each reading from the one before, which three workers order by a thread for each block: two
+# beside the first.
+BLOCKS = b"".join(b"s%03d,begin\ns%03d,r,x,%d\ns%03d,w,x,%d\ns%03d,commit\n" % (number, number, number - 1, number, number, number)
+                  for number in range(1, 130))
+FILES = {"certificate": FORK_CERTIFICATE, "blocks": BLOCKS, "two-stale-reads": TWO_STALE_READS, "large-order": LARGE_ORDER, "large-cycle": LARGE_CYCLE,
          "past": PAST, "often": OFTEN, "five": FIVE, "five-certificate": FIVE_CERTIFICATE, "three-fields": THREE_FIELDS}
 # The file of standard input, or none; the words after `tcc`, the answers, and the status. `@NAME` is one of these files.
 ANSWERS = [
@@ -227,6 +231,8 @@ ANSWERS = [
 SEARCHES = [(STALE, STALE_READ, 1), (FORK, FORK_ORDER, 0), ("@two-stale-reads", STALE_READ, 1)]
 ANSWERS += [(given, ["explain", "--workers", workers], said, status)
             for workers in ("1", "2") for given, said, status in SEARCHES]
+# An order by three workers, and how many threads have to start beside the first.
+ORDERED, BESIDE_FIRST = ("@blocks", ["explain", "--large", "--quiet", "--workers", "3"], [b"consistent: 129 transactions, 129 sessions\n"], 0), 2
 # What the recorders answer one after another, and what they say of the last transaction of each of them.
 SAID = (TOP / "crates" / "tcc_recorders" / "stdout").read_bytes()
 ANOMALY, END = SAID.index(b"anomaly"), SAID.rindex(b"consistent")
@@ -309,6 +315,16 @@ def refused_threads(run, shim):
             break
 
 
+def outcomes_of_order(run, shim):
+    """Each thread of an order that is refused, and whether enough threads are there to be refused."""
+    answers = list(refused_threads(run, shim))
+    for number, got in answers:
+        yield "%s, thread %d refused" % (run.name(), number), None if got == run.ample() else "got %r" % (got,)
+    # (the first answer is that without any, the last one that without a thread that isn't there)
+    started = len(answers) - 2
+    yield "%s, threads" % run.name(), None if started >= BESIDE_FIRST else "only %d threads start" % started
+
+
 def outcomes_of(run, shim):
     """Each refusal in runs of this command line, with what is wrong, or None."""
     unsaid = set(AGAIN if "alone" in run.words else [])
@@ -321,11 +337,16 @@ def outcomes_of(run, shim):
         yield "%s, thread %d refused" % (run.name(), number), None if got == run.ample() else "got %r" % (got,)
 
 
+def run_of(tcc, folder, given, words, answers, status):
+    """A run whose files, which the words name, lie in the folder."""
+    placed = [str(word).replace("@", folder + "/") for word in [given or os.devnull, *words]]
+    return Run([tcc, *placed[1:]], placed[0], answers if isinstance(answers, list) else [answers], status)
+
+
 def runs(tcc, recorders, folder):
-    """All that is run; the files that the words name lie in the folder."""
-    for given, words, answers, status in ANSWERS:
-        placed = [str(word).replace("@", folder + "/") for word in [given or os.devnull, *words]]
-        yield Run([tcc, *placed[1:]], placed[0], answers if isinstance(answers, list) else [answers], status)
+    """All of which each allocation is refused."""
+    for one in ANSWERS:
+        yield run_of(tcc, folder, *one)
     yield Run([recorders], os.devnull, RECORDED, 0)
     yield Run([recorders, "alone"], os.devnull, RECORDED, 0)
 
@@ -341,6 +362,7 @@ def outcomes(tcc, recorders):
             pathlib.Path(folder, name).write_bytes(text)
         shim = Shim(pathlib.Path(folder, "refuse.so"), pathlib.Path(folder, "refused"))
         subprocess.run([compiler, "-shared", "-fPIC", "-O1", "-o", shim.library, HERE / "refuse.c", "-ldl"], check=True)
+        yield from outcomes_of_order(run_of(tcc, folder, *ORDERED), shim)
         for run in runs(tcc, recorders, folder):
             yield from outcomes_of(run, shim)
 

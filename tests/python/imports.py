@@ -10,10 +10,10 @@ from helpers import differs
 
 def failure(text: str) -> Optional[str]:
     """Why a history can't be imported."""
-    from tcc import jepsen
-    from tcc.imported import Imported
-    from tcc.operations import Untold
-    from tcc.progress import Doing
+    from tcc.imports import jepsen
+    from tcc.imports.imported import Imported
+    from tcc.imports.operations import Untold
+    from tcc.common.progress import Doing
     try:
         jepsen.imported(jepsen.Reading(io.BytesIO(text.encode()), Imported({"null"}), Doing(""), ""), True)
     except Untold as error:
@@ -39,7 +39,8 @@ def far_lines() -> Iterator[Outcome]:
 def parts() -> Iterator[Outcome]:
     """A list with elements of so many sessions needs as many reads: what one transaction has no room for is in companions of its session,
     each read once, and these represent it."""
-    from tcc.lists import APPEND, LIST, OK, Lists, Step, Transaction
+    from tcc.imports.list_history import APPEND, LIST, OK, Step, Transaction
+    from tcc.imports.lists import Lists
     for count, wanted in ((255, [256]), (256, [256, 1]), (600, [256, 256, 88, 1])):
         every = [Transaction(number, OK, number + 1, 0, [Step(APPEND, "k", str(number + 1))]) for number in range(count)]
         text = "".join(" %d" % (number + 1) for number in range(count))
@@ -56,7 +57,8 @@ def parts() -> Iterator[Outcome]:
 def apart() -> Iterator[Outcome]:
     """What is made for a history of lists has names that nothing in the history has, also where that has names as these are: sessions that
     say in which order elements were appended, that what nobody read came last, and that something is wrong; and registers of elements."""
-    from tcc.lists import APPEND, LIST, OK, READ, Lists, Step, Transaction
+    from tcc.imports.list_history import APPEND, LIST, OK, READ, Step, Transaction
+    from tcc.imports.lists import Lists
     names, end = ["o.1", "u.1", "f.1", "d", "c"], 10**6
     appends = [Transaction(number, OK, number + 1, 0, [Step(APPEND, "k", element)]) for number, element in enumerate("1239")]
     for about, text, is_log, made in (("order", " 1 2 3", False, 1), ("order, and in a log the end", " 1 2 3", True, 2),
@@ -86,9 +88,9 @@ def initial() -> Iterator[Outcome]:
 
 def annotated() -> Iterator[Outcome]:
     """The node, time, index and line of each transaction are its own. Times of a clock count from the least one, others are as they are."""
-    from tcc import jepsen
-    from tcc.imported import Imported
-    from tcc.progress import Doing
+    from tcc.imports import jepsen
+    from tcc.imports.imported import Imported
+    from tcc.common.progress import Doing
     edn = "{:type :ok, :f :txn, :value [[:w :x %d]], :process 0, :time %d, :index %d%s}\n"
     json = '{"type":"ok","f":"txn","value":[["w","x",%d]],"process":0,"time":%d,"index":%d%s}\n'
     invoke = "{:type :invoke, :f :txn, :value [[:w :x 1]], :process 0, :time 1, :index 3, :node \"n9\"}\n"
@@ -107,7 +109,7 @@ def annotated() -> Iterator[Outcome]:
 def unknowns() -> Iterator[Outcome]:
     """Records of unknown outcome: they committed where a committed transaction read of them, not an aborted one; what they read says
     nothing."""
-    from tcc.rows import read_history
+    from tcc.common.rows import read_history
     told = [("a", ["w,x,1"], "unknown"), ("b", ["r,y,0", "w,x,2"], "unknown"), ("c", ["r,x,1"], "commit"), ("d", ["r,x,2"], "abort"),
             ("e", ["w,z,3"], "unknown"), ("f", ["r,z,3", "w,u,4", "w,v,5"], "unknown"), ("g", ["r,v,5"], "commit")]
     text = "".join("{0},begin\n{1}{0},{2}\n".format(name, "".join("%s,%s\n" % (name, each) for each in does), end) for name, does, end in told)
@@ -121,8 +123,9 @@ def unknowns() -> Iterator[Outcome]:
 def many_sessions() -> Iterator[Outcome]:
     """Reads of 130 sessions that as many others wrote over: each is contradicted, by searches and by clocks. A walk is a shortest one: in a
     session any earlier transaction is one step away."""
-    from tcc import contradicted
-    from tcc.rows import read_history
+    from tcc.judging import contradicted
+    from tcc.judging.graph import walk
+    from tcc.common.rows import read_history
     count, kept = 130, contradicted.SEARCHED
     text = "".join("s{0},begin\ns{0},w,x{0},1\ns{0},commit\nt{0},begin\nt{0},r,x{0},1\nt{0},w,x{0},2\nt{0},commit\n".format(number) for number in range(count))
     for value in (2, 1):
@@ -133,9 +136,9 @@ def many_sessions() -> Iterator[Outcome]:
         got = [(one.reader, one.operation.key, one.source, one.writer, one.name) for one in found.contradicted]
         yield differs("contradicted reads of many sessions, by " + about, (wanted, 3 * count), (got, found.reads))
     contradicted.SEARCHED = kept
-    steps = contradicted.walk(graph, graph.numbers["s7/1"], graph.numbers["r/4"])
+    steps = walk(graph, graph.numbers["s7/1"], graph.numbers["r/4"])
     yield differs("a walk", [("reads", "s7/1", "r/3"), ("session", "r/3", "r/4")], [(one.kind, one.source, one.target) for one in steps])
-    steps = contradicted.walk(graph, graph.numbers["r/1"], graph.numbers["r/4"])
+    steps = walk(graph, graph.numbers["r/1"], graph.numbers["r/4"])
     yield differs("a walk in a session", [("session", "r/1", "r/4")], [(one.kind, one.source, one.target) for one in steps])
 
 

@@ -99,7 +99,8 @@ def ended_between(folder: pathlib.Path) -> Iterator[Outcome]:
 
 def in_blocks(folder: pathlib.Path) -> Iterator[Outcome]:
     """A copy of records that are longer than a block, up to the last byte that counts; with a seal, which is left out."""
-    from tcc import looking, snapshot
+    from tcc import snapshot
+    from tcc.watch import looking
     path, copy, kept = folder / "blocks.csv", folder / "blocks-copy.csv", looking.BLOCK
     text = "".join("a,begin\na,w,x,%d\na,commit\n" % number for number in range(1, 9))
     for about, more in (("", ""), (" with a seal", "seal\nb,begin\nb,r,x,8\nb,commit\n")):
@@ -115,7 +116,7 @@ def in_blocks(folder: pathlib.Path) -> Iterator[Outcome]:
 def joins(folder: pathlib.Path) -> Iterator[Outcome]:
     """Several files as one history: part after part between seals; none of sessions of one name, of files out of step, or without an end."""
     from tcc import NoRecord
-    from tcc.looking import joined
+    from tcc.watch.looking import joined
 
     def told(*texts: str) -> str:
         paths = [folder / ("joined.%d.csv" % number) for number in range(len(texts))]

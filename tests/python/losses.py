@@ -392,7 +392,7 @@ def links(folder: pathlib.Path) -> Iterator[Outcome]:
 def annotations(folder: pathlib.Path, library: str) -> Iterator[Outcome]:
     """Each annotation is of its own transaction; the time goes on after a restart; what a dead process left has node and time."""
     from tcc import Recorder
-    from tcc.notes import read_notes
+    from tcc.common.notes import read_notes
     path, notes = folder / "noted.csv", folder / "noted.notes"
     with Recorder(path, notes=notes) as recorder:
         session = recorder.session("a", node="n0")

@@ -10,7 +10,7 @@ from helpers import differs, ended, raises, run
 def events(folder: pathlib.Path) -> Iterator[Outcome]:
     """What happened meanwhile, beside what transactions have."""
     from tcc import NoRecord, Recorder
-    from tcc.notes import Event, read_events, read_notes
+    from tcc.common.notes import Event, read_events, read_notes
     path = folder / "events.notes"
     with Recorder(folder / "events.csv", notes=path) as recorder:
         recorder.event("start-pause n1", node="n1")
@@ -33,7 +33,7 @@ def events(folder: pathlib.Path) -> Iterator[Outcome]:
 def spelled(folder: pathlib.Path) -> Iterator[Outcome]:
     """No cell begins as a formula does, and each is read as it was; an apostrophe of somebody's own stays."""
     from tcc import Recorder
-    from tcc.notes import Note, read_events, read_notes, write_notes
+    from tcc.common.notes import Note, read_events, read_notes, write_notes
     path, texts = folder / "spelled.notes", ["=1+1", "+1", "-1", "@a", "'a", "''=a", 'a "b", c']
     with Recorder(folder / "spelled.csv", notes=path) as recorder:
         for text in texts:
@@ -48,7 +48,7 @@ def spelled(folder: pathlib.Path) -> Iterator[Outcome]:
 def ways(folder: pathlib.Path, library: str, tcc: List[str]) -> Iterator[Outcome]:
     """A client writes at one node, and doesn't see it at the next: an anomaly of the client's session, and none of each node's."""
     from tcc import Anomaly, Consistent, Recorder, explain
-    from tcc.notes import read_notes
+    from tcc.common.notes import read_notes
     path, notes = folder / "nodes.csv", folder / "nodes.notes"
     with Recorder(path, notes=notes) as recorder:
         session = recorder.session("c")

@@ -142,15 +142,16 @@ def outcomes() -> Iterator[Outcome]:
     slow = re.compile(r"x(?:[a-z]+[ ,]*)*y")
     yield "a pattern that is slow is found", None if fault_of(slow, False) else "it isn't"
     count = 0
-    for path in sorted(PACKAGE.glob("*.py")):
-        source = path.read_text()
-        yield "patterns of %s have names" % path.name, loose(source)
+    paths = sorted(PACKAGE.rglob("*.py"))
+    searched = set(USED.findall("".join(one.read_text() for one in paths)))
+    for path in paths:
+        source, inside = path.read_text(), path.relative_to(PACKAGE)
+        yield "patterns of %s have names" % inside, loose(source)
         if path.stem == "__init__" or "re.compile" not in source:
             continue
-        module = importlib.import_module("tcc." + path.stem)
-        searched = set(USED.findall("".join(one.read_text() for one in PACKAGE.glob("*.py"))))
+        module = importlib.import_module(".".join(["tcc", *inside.with_suffix("").parts]))
         for name, pattern in vars(module).items():
             if isinstance(pattern, re.Pattern):
                 count += 1
-                yield "pattern %s of %s" % (name, path.name), fault_of(pattern, name in searched)
+                yield "pattern %s of %s" % (name, inside), fault_of(pattern, name in searched)
     yield "patterns are there", None if count > 15 else "only %d" % count

@@ -1,7 +1,6 @@
 """What a page says of a run: the first contradicted read, what happened meanwhile, the picture of a slice, charts and tables, and which
 limits a history needs. Beside these, names that two sessions by node could have in common, how much a client does, which program is run
 and how its status is passed on."""
-import argparse
 import io
 import json
 import os
@@ -9,8 +8,7 @@ import pathlib
 import re
 import stat
 import sys
-import time
-from typing import Iterator, List
+from typing import Iterator
 
 from counted import Outcome
 from helpers import differs
@@ -34,27 +32,33 @@ ANOMALY = ('{"answer":"anomaly","cycle":[{"from":"init","kind":"session","to":"a
 
 def findings(records: str, **more):
     """What a page of some records tells, before anything was asked."""
-    from tcc.program import Program
-    from tcc.report import Findings
-    from tcc.rows import read_history
+    from tcc.judging.program import Program
+    from tcc.show.findings import Findings
+    from tcc.common.rows import read_history
     return Findings("records.csv", Program("tcc", is_large=True), read_history(io.StringIO(records)), {}, {"answer": "anomaly"}, [], **more)
 
 
 def first() -> Iterator[Outcome]:
     """The first contradicted read is that of the first row, whatever its label."""
-    from tcc.contradicted import survey
-    from tcc.report import first_of
+    from tcc.common.notes import Note
+    from tcc.judging.contradicted import survey
+    from tcc.show.overview import first_of
     told = findings(STALE)
     told.found, told.graph = survey(told.history, "causal", lambda what: None)
     yield differs("contradicted reads by label", ["a/2", "b/2"], [one.reader for one in told.contradicted])
-    yield differs("the first one by rows", "row 8, in b/2", first_of(told))
+    yield differs("the first one by rows", "by row: row 8, in b/2", first_of(told))
+    told.notes = {"a/2": Note(time="2.5"), "b/2": Note(time="3")}
+    yield differs("the first one by time", "by time: 2.500 s, row 11, in a/2", first_of(told))
+    told.notes = {"a/2": Note(time="2.5"), "b/2": Note(node="n1")}
+    yield differs("the first one where one has no time", "by row: row 8, in b/2", first_of(told))
 
 
 def meanwhile() -> Iterator[Outcome]:
     """What began and ended, each by its name, and its node where it has one; of two lines of the nemesis the first."""
-    from tcc.imported import Imported, Nemesis
-    from tcc.notes import Event
-    from tcc.report import spans
+    from tcc.imports.collected import Nemesis
+    from tcc.imports.imported import Imported
+    from tcc.common.notes import Event
+    from tcc.show.overview import spans
     events = [("start-partition", 1), ("kill n1", 2), ("kill n2", 2.25), ("pause n1", 2.5), ("start n1", 3), ("resume n1", 3.5), ("stop-partition", 4),
               ("partition", 5), ("heal", 6), ("start", 7), ("bump", 7.5), ("stop", 8), ("bump", 9), ("start n2", 10)]
     told = findings("", events=[Event(what, float(time)) for what, time in events])
@@ -72,10 +76,10 @@ def meanwhile() -> Iterator[Outcome]:
 
 def sliced(folder: pathlib.Path) -> Iterator[Outcome]:
     """The picture of a slice has the labels of the whole, those of walks too."""
-    from tcc.answers import cycle_of
-    from tcc.program import Program
-    from tcc.progress import Doing
-    from tcc.report import Work, certify
+    from tcc.judging.answers import cycle_of
+    from tcc.judging.program import Program
+    from tcc.common.progress import Doing
+    from tcc.show.gathering import Work, certify
     place = folder / "sliced"
     place.mkdir()
     program = place / "program"
@@ -92,9 +96,9 @@ def sliced(folder: pathlib.Path) -> Iterator[Outcome]:
 
 def limits() -> Iterator[Outcome]:
     """A history past any of the default limits needs --large, and none at them."""
-    from tcc.limits import MAX_KEYS, MAX_SESSIONS, MAX_TRANSACTIONS
-    from tcc.report import is_large
-    from tcc.rows import read_history
+    from tcc.common.limits import MAX_KEYS, MAX_SESSIONS, MAX_TRANSACTIONS
+    from tcc.show.findings import is_large
+    from tcc.common.rows import read_history
 
     def needs(sessions: int, transactions: int, keys: int) -> bool:
         lines = ["s%d,begin\ns%d,commit\n" % (number, number) for number in range(sessions - 1)]
@@ -109,8 +113,8 @@ def limits() -> Iterator[Outcome]:
 
 def drawn() -> Iterator[Outcome]:
     """A chart's bars have each place once, that at the end too, and its mark is at the first; a table says how many it leaves out."""
-    from tcc.chart import Course, chart
-    from tcc.page import counts
+    from tcc.show.chart import Course, chart
+    from tcc.show.page import counts
     text = chart(Course(10.0, "s", [8.0, 2.0, 10.0], [5.0, 8.5]), 920, 10)
     wanted = ["2 s to 3 s: 1 contradicted", "5 s to 6 s: 0 contradicted, 1 not judged", "8 s to 9 s: 1 contradicted, 1 not judged",
               "9 s to 10 s: 1 contradicted"]
@@ -123,8 +127,8 @@ def drawn() -> Iterator[Outcome]:
 
 def programs() -> Iterator[Outcome]:
     """The program that is named comes before that of the variable TCC, and this before that on the path."""
-    from tcc.program import program_at
-    from tcc.runner import program
+    from tcc.judging.program import program_at
+    from tcc.judging.runner import program
     kept = os.environ.get("TCC")
     os.environ["TCC"] = "/bin/false"
     try:
@@ -138,7 +142,7 @@ def programs() -> Iterator[Outcome]:
 
 def in_full(folder: pathlib.Path) -> Iterator[Outcome]:
     """Which words `tcc-full` passes on, and that its status is the program's; 128 and the signal where that was killed."""
-    from tcc import full
+    from tcc.judging import full
     one, kept = folder / "full-program", sys.argv
     one.write_text('#!/bin/sh\necho "$@" > "$0.words"\nread -r status < "$0.status"\ntest "$status" = killed && kill -9 $$\nexit "$status"\n')
     one.chmod(0o755)
@@ -147,7 +151,7 @@ def in_full(folder: pathlib.Path) -> Iterator[Outcome]:
             (folder / "full-program.status").write_text(status + "\n")
             sys.argv = ["tcc-full", "--tcc", str(one), "records.csv"]
             yield differs("tcc-full of a program that ends with %s" % status, wanted, full.main())
-        yield differs("its words", "explain --full --level causal -- records.csv\n", (folder / "full-program.words").read_text())
+        yield differs("its words", "explain --full --level causal --require 1 -- records.csv\n", (folder / "full-program.words").read_text())
         (folder / "full-program.status").write_text("0\n")
         sys.argv = ["tcc-full", "--tcc", str(one), "--level", "atomic", "--large", "--workers", "3", "--require", "7", "records.csv"]
         full.main()
@@ -159,7 +163,7 @@ def in_full(folder: pathlib.Path) -> Iterator[Outcome]:
 
 def long_names(folder: pathlib.Path) -> Iterator[Outcome]:
     """Two nodes whose names are cut to one: their sessions have names that differ, and are no longer than a name may be."""
-    from tcc.sessions import write_by_node
+    from tcc.record.sessions import write_by_node
     records, notes, out = (folder / ("long-names." + end) for end in ("csv", "notes", "out"))
     client, nodes = "a" * 30, ("east", "east2", "west")
     records.write_text("".join("%s,begin\n%s,commit\n" % (client, client) for _ in nodes))
@@ -169,19 +173,51 @@ def long_names(folder: pathlib.Path) -> Iterator[Outcome]:
     yield differs("names that are cut", wanted, [line.split(",")[0] for line in out.read_text().splitlines() if line.endswith("begin")])
 
 
-def enough() -> Iterator[Outcome]:
-    """A client has done enough at its most, or where its time is over and it did the least, or where the longest time is."""
-    from tcc.clients import LONGER, Much
-    asked = argparse.Namespace(transactions=10, at_least=4, seconds=100)
-    much = Much.of(asked, 0.0)
-    yield differs("how much a client does", (10, 4, 100.0, 100.0 * LONGER), (much.most, much.least, much.until, much.longest))
-    now = time.monotonic()
-    cases: List[tuple] = [((10, 4, now + 900, now + 9000), 9, False), ((10, 4, now + 900, now + 9000), 10, True), ((10, 4, now - 1, now + 9000), 3, False),
-                          ((10, 4, now - 1, now + 9000), 4, True), ((10, 4, now - 9, now - 1), 3, True)]
-    for number, (told, done, wanted) in enumerate(cases, 1):
-        yield differs("enough, case %d, after %d" % (number, done), wanted, Much(*told).is_enough(done))
+def pending(folder: pathlib.Path) -> Iterator[Outcome]:
+    """A value that is noted beside the records alone was written by what hadn't ended when the recorder did, which is said; of others, and
+    where the recorder was closed, nothing is."""
+    from tcc import Recorder
+    from tcc.record.known import hint_of_pending
+    path = folder / "left.csv"
+    recorder = Recorder(path)
+    with recorder.session("a").transaction() as one:
+        one.write("x", 5)
+        said = [bool(hint_of_pending(path, pairs)) for pairs in ({("x", 5), ("y", 1)}, {("x", 6)}, {("y", 5)}, set())]
+        hint = hint_of_pending(path, {("x", 5)})
+    recorder.close()
+    yield differs("whether what nobody wrote is noted beside the records", ([True, False, False, False], False),
+                  (said, bool(hint_of_pending(path, {("x", 5)}))))
+    yield "what to do about it", None if hint.endswith("tcc-look -o whole.csv %s writes a history with them" % path) and str(path) + ".pending" in hint else hint
+
+
+def no_records(folder: pathlib.Path) -> Iterator[Outcome]:
+    """What is no file of records is named, with what to do: a history of Jepsen, a packed file, a folder, a text in the place of a path. And
+    what `tcc` says in JSON in the place of an answer is shown in words."""
+    from tcc import NoAnswer, explain
+    from tcc.common.inputs import why_no_records
+    from tcc.judging.program import plain_end
+    for name, content in (("history.edn", b"{:type :ok, :process 0, :f :txn, :value []}\n"), ("history.json", b'[{"type":"ok"}]'),
+                          ("records.csv.gz", b"\x1f\x8b\x08"), ("history.txt", b"0 :invoke :txn [[:r 1 nil]]\n"), ("records.zip", b"PK\x03\x04")):
+        (folder / name).write_bytes(content)
+    for given, wanted in ((folder / "history.edn", "tcc-jepsen %s > records.csv makes records" % (folder / "history.edn")),
+                          (folder / "history.json", "tcc-report %s a page" % (folder / "history.json")), (folder / "records.csv.gz", "gunzip it first"),
+                          (folder / "history.txt", "history.edn beside it is the history"), (folder / "records.zip", "it is a zip archive: unpack it first"),
+                          (folder, "is a folder: tcc-join -o records.csv %s/*.csv makes one history" % folder),
+                          ("a,begin\na,commit\n", "a text, and no path")):
+        try:
+            said = str(explain(given, tcc=sys.executable))
+        except NoAnswer as error:
+            said = str(error)
+        yield "what %s is" % os.path.basename(given).split("\n")[0], None if wanted in said else said
+    pipe = folder / "pipe"
+    os.mkfifo(pipe)
+    yield differs("a pipe, which nobody reads here", None, why_no_records(pipe))
+    for line, wanted in (('{"answer":"row","kind":"FieldCount","row":2}', "row 2: FieldCount"),
+                         ('{"answer":"row","kind":"Unfinished","row":2,"session":"a"}', "row 2: Unfinished a"), ('{"answer":"memory"}', "memory"),
+                         ("tcc: what", "tcc: what"), ("", ""), ("[1]", "[1]")):
+        yield differs("in words, %s" % line, wanted, plain_end(line))
 
 
 def outcomes(folder: pathlib.Path) -> Iterator[Outcome]:
-    for part in (first(), meanwhile(), sliced(folder), limits(), drawn(), programs(), in_full(folder), long_names(folder), enough()):
+    for part in (first(), meanwhile(), sliced(folder), limits(), drawn(), programs(), in_full(folder), long_names(folder), pending(folder), no_records(folder)):
         yield from part

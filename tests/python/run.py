@@ -3,11 +3,12 @@
 
     run.py [--tcc PATH]
 
-Into a new folder: what is asked of it is asked of what is there. That its types are right is asked of mypy, its fixtures are run by
-pytest, and calls and rounds go to an etcd and a Redis. Before that it asks that no pattern of it is slow (`patterns.py`). Where
-pip, mypy, pytest, etcd or redis-server isn't there, what needs it is passed over, which is said. Each difference is one line; the
-last line is `N passed, M failed`.
+Into a new folder: what is asked of it is asked of what is there. Its types are checked by mypy and its style by ruff, pytest runs its
+fixtures, and calls and rounds go to an etcd and a Redis. Before that it asks that no pattern of it is slow (`patterns.py`). Where
+pip, mypy, ruff, pytest, Hypothesis, Dask.distributed, etcd or redis-server isn't there, what needs it is passed over, which is said. Each
+difference is one line; the last line is `N passed, M failed`.
 """
+import importlib
 import json
 import os
 import pathlib
@@ -23,7 +24,10 @@ from typing import Callable, Dict, Iterator, List, Optional
 
 sys.path.insert(0, str(pathlib.Path(__file__).resolve().parent.parent))
 import calls  # noqa: E402
+import harnessed  # noqa: E402
+import fleets  # noqa: E402
 import imports  # noqa: E402
+import judged  # noqa: E402
 import looks  # noqa: E402
 import losses  # noqa: E402
 import patterns  # noqa: E402
@@ -40,8 +44,14 @@ from helpers import SECONDS, TOP, Broken, Refused, differs, ended, raises, run  
 from limits import asked  # noqa: E402
 
 PACKAGE = TOP / "python"
-COMMANDS = ["tcc-all", "tcc-edn", "tcc-full", "tcc-jepsen", "tcc-join", "tcc-look", "tcc-picture", "tcc-places", "tcc-report", "tcc-sessions",
-            "tcc-settle", "tcc-versions"]
+COMMANDS = ["tcc-all", "tcc-edn", "tcc-fleet", "tcc-full", "tcc-jepsen", "tcc-join", "tcc-look", "tcc-picture", "tcc-places", "tcc-report",
+            "tcc-sessions", "tcc-settle", "tcc-shrink", "tcc-versions", "tcc-watch"]
+# What `python3 -m tcc.NAME` starts.
+MODULES = ["all", "edn", "full", "jepsen", "looking", "picture", "places", "report", "sessions", "settling", "versions"]
+# What readers of annotations take from the package by this path.
+PATHS = {"tcc.notes": ["Event", "Note", "read_events", "read_notes", "write_notes"]}
+MOST_LINES = 400
+WHOLE = ["recheck.py"]  # one file by design: somebody copies it alone
 THREADS, TURNS = 8, 40
 # A process that is killed while a transaction of its is in its COMMIT, and another one hasn't come so far.
 DYING = """
@@ -275,6 +285,13 @@ def answers(folder: pathlib.Path, tcc: List[str]) -> Iterator[Outcome]:
     thin.write_text("a,begin\na,r,x,7\na,commit\n")
     answer = explain(thin, tcc=tcc[-1])
     yield differs("an unresolved answer", Unresolved((Fault("ThinAir", "a", 1, 1, "x", 7),)), answer)
+    padded, small = folder / "padded.csv", folder / "slice.csv"
+    padded.write_text("".join("b,begin\nb,w,y,%d\nb,commit\n" % value for value in range(1, 6)) + (TOP / "examples/stale-read.csv").read_text())
+    yield differs("an anomaly with a slice", wanted, explain(padded, tcc=tcc[-1], slice=small))
+    yield differs("its slice", ["a,begin", "a,w,x,1", "a,commit", "a,begin", "a,r,x,0", "a,commit"], small.read_text().split())
+    small.write_text("what was there\n")
+    explain(thin, tcc=tcc[-1], slice=small)
+    yield differs("a slice of no anomaly", "", small.read_text())
     for path in [*sorted((TOP / "examples").glob("*.csv")), thin]:
         done = subprocess.run([*tcc, "explain", str(path)], capture_output=True, text=True, timeout=SECONDS, check=False)
         printed = done.stdout[:done.stdout.rindex(done.stdout.splitlines()[-1])] + done.stdout.splitlines()[-1]
@@ -302,6 +319,12 @@ def commands(folder: pathlib.Path, library: str, tcc: List[str]) -> Iterator[Out
     for name in COMMANDS:
         done = run([sys.executable, os.path.join(library, "bin", name), "--help"], library)
         yield "help of " + name, None if done.returncode == 0 and "usage: " + name in done.stdout else done.stderr[-300:]
+    for name in MODULES:
+        done = run([sys.executable, "-m", "tcc." + name, "--help"], library)
+        yield "help of tcc." + name, None if done.returncode == 0 and "usage: %s.py" % name in done.stdout else done.stderr[-300:]
+    for name, wanted in PATHS.items():
+        module = importlib.import_module(name)
+        yield differs("what %s lacks" % name, [], [one for one in wanted if not hasattr(module, one)])
     history, records = folder / "history.edn", folder / "jepsen.csv"
     history.write_text("{:type :ok :process 1 :f :txn :value [[:w :x 5]]}\n{:type :ok :process 1 :f :txn :value [[:r :x nil]]}\n")
     done = run([sys.executable, os.path.join(library, "bin/tcc-jepsen"), str(history)], library)
@@ -321,6 +344,18 @@ def types() -> Iterator[Outcome]:
     words = ["mypy", "--strict", "--ignore-missing-imports", "--cache-dir", os.devnull, "tcc", "backend/wheels.py"]
     done = subprocess.run(words, cwd=PACKAGE, capture_output=True, text=True, timeout=SECONDS, check=False)
     yield "mypy --strict", None if done.returncode == 0 else done.stdout[-500:]
+
+
+def style() -> Iterator[Outcome]:
+    """What ruff says of the sources, by the rules that pyproject.toml names; and no file has more lines than one reads in a go."""
+    for path in sorted(one for one in PACKAGE.rglob("*.py") if one.name not in WHOLE):
+        lines = path.read_text().count("\n")
+        yield "lines of %s" % path.relative_to(PACKAGE), None if lines < MOST_LINES else "%d, and at most %d" % (lines, MOST_LINES - 1)
+    if not shutil.which("ruff"):
+        print("style: passed over: no ruff on the path")
+        return
+    done = subprocess.run(["ruff", "check", "--no-cache", "tcc", "backend"], cwd=PACKAGE, capture_output=True, text=True, timeout=SECONDS, check=False)
+    yield "ruff check", None if done.returncode == 0 else done.stdout[-500:]
 
 
 def fixtures(folder: pathlib.Path, library: str, tcc: List[str]) -> Iterator[Outcome]:
@@ -355,7 +390,7 @@ def rounds(folder: pathlib.Path, library: str, tcc: List[str]) -> Iterator[Outco
             (folder / name / (round_name + ".csv")).write_text(records)
         report = folder / name / "report.xml"
         words = [python, "-m", "pytest", "-q", "-p", "no:cacheprovider", "--junit-xml", str(report), str(TOP / "recipes/ci/test_causal.py")]
-        done = run(words, library, more={"TCC": os.path.abspath(tcc[-1]), "RECORDS": str(folder / name)}, cwd=folder)
+        done = run(words, library, more={"TCC": os.path.abspath(tcc[-1]), "ROUNDS": str(folder / name)}, cwd=folder)
         yield differs("rounds %s: status of pytest" % name, 0 if name == "kept" else 1, done.returncode)
         cases = {one.get("name"): failure_of(one) for one in xml.parse(report).iter("testcase")} if report.exists() else {}
         for round_name, (_, message) in text.items():
@@ -379,7 +414,7 @@ def same_version(tcc: List[str]) -> Iterator[Outcome]:
 
 def same_limits(tcc: List[str]) -> Iterator[Outcome]:
     """The package has the limits of the program, by the names of its constants."""
-    known = runpy.run_path(str(PACKAGE / "tcc/limits.py"))
+    known = runpy.run_path(str(PACKAGE / "tcc/common/limits.py"))
     told = asked(*tcc)
     wanted = {"MAX_NAME_BYTES": told["name_bytes"], "MAX_OPERATIONS": told["default"]["operations"], "MAX_WORKERS": told["workers"]}
     for name, which in (("MAX", "default"), ("LARGE", "large")):
@@ -397,6 +432,7 @@ def outcomes(tcc: List[str]) -> Iterator[Outcome]:
         del sys.modules[name]
     sys.path.remove(str(PACKAGE))
     yield from types()
+    yield from style()
     yield from same_version(tcc)
     yield from guarded("limits of the package", same_limits(tcc))
     if subprocess.run([sys.executable, "-m", "pip", "--version"], capture_output=True, check=False).returncode:
@@ -414,9 +450,11 @@ def outcomes(tcc: List[str]) -> Iterator[Outcome]:
         parts = {"ends": ends(folder), "refusals": refusals(folder), "crash": crash(folder, library), "threads": threads(folder, tcc),
                  "losses": losses.outcomes(folder, library, tcc), "working": working.outcomes(folder, library, tcc),
                  "calls": calls.outcomes(folder, tcc), "looks": looks.outcomes(folder, library, tcc),
-                 "watches": watches.outcomes(folder, tcc),
+                 "watches": watches.outcomes(folder, library, tcc), "harness": harnessed.outcomes(folder, tcc),
                  "several": several.outcomes(folder, library, tcc), "nodes": nodes.outcomes(folder, library, tcc),
                  "reported": reported.outcomes(folder), "imports": imports.outcomes(),
+                 "fleets": fleets.outcomes(folder, library, tcc, python_with("distributed")),
+                 "judged": judged.outcomes(folder, library, tcc, python_with("pytest"), python_with("hypothesis")),
                  "versions": versioned.outcomes(folder, library, tcc), "stores": stores.outcomes(folder, tcc), "answers": answers(folder, tcc), "commands": commands(folder, library, tcc),
                  "fixtures": fixtures(folder, library, tcc), "rounds": rounds(folder, library, tcc)}
         for about, part in parts.items():

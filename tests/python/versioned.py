@@ -21,7 +21,8 @@ OBSERVED = ["o.1,begin", "o.1,r,x,1", "o.1,commit", "o.1,begin", "o.1,r,x,2", "o
 def recorded(folder: pathlib.Path, library: str, tcc: List[str]) -> Iterator[Outcome]:
     """What a recorder keeps, and the answers without versions and with them."""
     from tcc import Anomaly, Consistent, NoAnswer, NoRecord, Recorder, explain
-    from tcc.versions import NoVersions, read_versions, write_versioned
+    from tcc.judging.noted_versions import NoVersions, read_versions
+    from tcc.judging.versions import write_versioned
     path, versions = folder / "versioned.csv", folder / "versioned.versions"
     with Recorder(path, versions=versions) as recorder:
         a, b, c = (recorder.session(name) for name in "abc")
@@ -40,7 +41,11 @@ def recorded(folder: pathlib.Path, library: str, tcc: List[str]) -> Iterator[Out
     yield differs("records beside versions", RECORDS, path.read_text().split())
     yield differs("versions", ["key,value,version", "x,1,10", "x,2,20"], versions.read_text().split())
     yield differs("the answer without versions", Consistent, type(explain(path, tcc=tcc[-1])))
-    yield differs("the answer with versions", Anomaly, type(explain(path, tcc=tcc[-1], versions=versions)))
+    # b/1 is the later one of x by its version; c/1 read it, so c/2 had observed it, and reads a/1's.
+    wanted = "\n".join(["anomaly: 4 steps, overwritten-read", "version a/1 -> b/1 by x", "derived b/1 -> a/1 by x, read by c/2", "  reads b/1 -> c/1 by x",
+                        "  session c/1 -> c/2", "  against a/1 -> c/2 by x", ""])
+    answer = explain(path, tcc=tcc[-1], versions=versions)
+    yield differs("the answer with versions", (Anomaly, wanted), (type(answer), answer.text()))
     with Recorder(path, versions=versions) as recorder:
         with recorder.session("d").transaction() as one:
             one.read("x", 2, version=20)
@@ -59,24 +64,48 @@ def recorded(folder: pathlib.Path, library: str, tcc: List[str]) -> Iterator[Out
     got = (answer.transactions, answer.sessions, sorted(answer.order)) if isinstance(answer, Consistent) else answer
     yield differs("the answer where the first one read is the older", (5, 4, ["a/1", "b/1", "c/1", "c/2", "d/1", "init"]), got)
     yield "more transactions than there are, without observers", raises(NoAnswer, lambda: explain(path, tcc=tcc[-1], versions=versions, require=6))
-    for about, text in (("two versions of a value", "x,1,1\nx,1,2\n"), ("a line that is none", "x,1\n"), ("a version of 0", "x,1,0\n"),
+    for about, text in (("a line that is none", "x,1\n"), ("a version of 0", "x,1,0\n"),
                         ("a text", "x,1,a\n")):
         versions.write_text(text)
         yield about, raises(NoVersions, lambda: read_versions(versions))
     versions.write_text("x,1,5\nx,2,5\n")
     yield "one version of two values", raises(NoVersions, lambda: write_versioned(path, versions, out))
     yield differs("tcc-versions of one version of two values", 3, run(words, library).returncode)
-    yield "an answer with such versions", raises(ValueError, lambda: explain(path, tcc=tcc[-1], versions=versions))
+    yield "an answer with such versions", raises(NoAnswer, lambda: explain(path, tcc=tcc[-1], versions=versions))
+    yield from doubtful(folder, path, tcc)
     yield "a file of another form", raises(NoRecord, lambda: Recorder(folder / "more.csv", versions=path))
     with Recorder(folder / "no-versions.csv") as recorder:
         with recorder.session("a").transaction() as one:
             yield "a version without a file", raises(NoRecord, lambda: one.read("x", 1, version=1))
 
 
+def doubtful(folder: pathlib.Path, path: pathlib.Path, tcc: List[str]) -> Iterator[Outcome]:
+    """A value with two versions, or two values with one, as of a store that numbers anew: how many there are, the first of them with who wrote
+    and read it and where, and the answers by what was noted before it, and by no versions. By the first two lines c/2 is stale."""
+    from tcc import Anomaly, Consistent, NoAnswer, explain
+    versions, notes = folder / "doubtful.versions", folder / "doubtful.notes"
+    notes.write_text("transaction,node\na/1,n1\nc/2,n2\n")
+    first = "x = 1 has the versions 10 and 30 (%s, line %%d); a/1 at n1 wrote 1, and c/2 at n2 read it" % versions
+    for about, text, count, said, before in (
+            ("two versions of a value", "x,1,10\nx,2,20\nx,1,30\nx,1,40\nx,2,5\n", 2, first % 3, 2),
+            ("and before it another value", "x,1,10\nx,1,30\nx,2,20\n", 1, first % 2, 1),
+            ("one version of two values", "z,5,3\nx,1,10\nx,2,10\n", 1, "x = 1 and x = 2 have the same version 10; a/1 at n1 wrote 1, and c/2 at n2 "
+             "read it; b/1 wrote 2, and c/1, d/1 read it", 2)):
+        versions.write_text(text)
+        try:
+            got = str(explain(path, tcc=tcc[-1], versions=versions, notes=notes))
+        except NoAnswer as error:
+            got = str(error)
+        wanted = "%d values have two versions or share one. The first: %s. A store" % (count, said)
+        yield about, None if got.startswith(wanted) and "by the %d versions" % before in got else "wanted %s.., got %s" % (wanted, got)
+        answers = [type(explain(path, tcc=tcc[-1], versions=versions, two_versions=way)) for way in ("before", "without")]
+        yield differs(about + ": the answers", [Anomaly if about == "two versions of a value" else Consistent, Consistent], answers)
+
+
 def retold(folder: pathlib.Path) -> Iterator[Outcome]:
     """A version that comes again is kept once; another one of the same value is kept too, so that the file is refused."""
     from tcc import Recorder
-    from tcc.versions import NoVersions, read_versions
+    from tcc.judging.noted_versions import read_versions
     versions = folder / "retold.versions"
     with Recorder(folder / "retold.csv", versions=versions) as recorder:
         session = recorder.session("a")
@@ -84,13 +113,14 @@ def retold(folder: pathlib.Path) -> Iterator[Outcome]:
             with session.transaction() as one:
                 one.read("x", 1, version=version)
     yield differs("versions that come again", ["key,value,version", "x,1,10", "x,1,11"], versions.read_text().split())
-    yield "two versions of a value that was read", raises(NoVersions, lambda: read_versions(versions))
+    doubts = [(one.before, one.key, one.values) for one in read_versions(versions).doubts]
+    yield differs("two versions of a value that was read", [(1, "x", ("1",))], doubts)
 
 
 def neighbours() -> Iterator[Outcome]:
     """A read of a version of which the next one was known is older; one of the greatest isn't."""
-    from tcc.rows import read_history
-    from tcc.versions import Versioned
+    from tcc.common.rows import read_history
+    from tcc.judging.versions import Versioned
     text = "".join(line + "\n" for line in RECORDS)
     for told, wanted in (({"1": 1, "2": 2}, [("c/2", "1", "b/1")]), ({"1": 2, "2": 1}, []), ({"1": 7, "2": 8}, [("c/2", "1", "b/1")])):
         stale = Versioned(read_history(io.StringIO(text)), {"x": told}).stale
@@ -99,8 +129,8 @@ def neighbours() -> Iterator[Outcome]:
 
 def apart() -> Iterator[Outcome]:
     """Observers and marks have names that nothing in the history has: here a client is called as the first observer, and a key as the mark."""
-    from tcc.rows import read_history
-    from tcc.versions import Versioned
+    from tcc.common.rows import read_history
+    from tcc.judging.versions import Versioned
     text = "".join(("o.1" + line[1:] if line[0] == "c" else line) + "\n" for line in RECORDS)
     text = text.replace("b,w,x,2\n", "b,w,x,2\nb,w,x.v20,9\n")
     one = Versioned(read_history(io.StringIO(text)), {"x": {"1": 10, "2": 20}})
@@ -208,8 +238,8 @@ def asked(tcc: List[str], words: List[str], records: str) -> "subprocess.Complet
 def by_definition(tcc: List[str], count: int) -> Iterator[Outcome]:
     """Random histories: there is an answer `consistent` exactly where there is an order, and the contradicted reads are those of the
     definition, as they are worked out and as `tcc survey` lists them."""
-    from tcc.rows import read_history
-    from tcc.versions import Versioned
+    from tcc.common.rows import read_history
+    from tcc.judging.versions import Versioned
     wrong, good, bad, by_versions = None, 0, 0, 0
     for seed in range(count):
         every, versions = history(random.Random(seed), 3 + seed % 4)
@@ -239,28 +269,9 @@ def by_definition(tcc: List[str], count: int) -> Iterator[Outcome]:
         good, bad, by_versions))
 
 
-def of_etcd() -> Iterator[Outcome]:
-    """What the recorder of recipes/etcd reckons from revisions, by hand: b reads the older x after it read y of who knew the newer x."""
-    import importlib.util
-    path = pathlib.Path(__file__).resolve().parents[2] / "recipes/etcd/record.py"
-    spec = importlib.util.spec_from_file_location("etcd_record", path)
-    record = importlib.util.module_from_spec(spec)
-    sys.modules[spec.name] = record
-    spec.loader.exec_module(record)
-    seen, found = record.Seen, record.Found
-    every = [seen("a/1", {"x": 1}, 2), seen("c/1", {"x": 2}, 3), seen("c/2", {"y": 3}, 4),
-             seen("b/1", {}, 0, {"y": found(3, 4)}), seen("b/2", {}, 0, {"x": found(1, 2), "y": found(3, 4)}),
-             seen("b/3", {}, 0, {"x": found()}), seen("a/2", {}, 0, {"x": found(1, 2), "y": found()}),
-             seen("d/1", {"z": 5}, 0), seen("d.2/1", {"z": 6}, 9), seen("b/4", {}, 0, {"z": found(6, 9)}), seen("b/5", {}, 0, {"z": found(5, 7)})]
-    yield differs("stale by revisions", [("b/2", "x"), ("b/3", "x"), ("b/5", "z")], sorted(set(record.stale(every))))
-    circle = [seen("a/1", {"x": 1}, 2, {"y": found(2, 3)}), seen("b/1", {"y": 2}, 3, {"x": found(1, 2)})]
-    yield "revisions of a circle", raises(ValueError, lambda: list(record.stale(circle)))
-
-
 def outcomes(folder: pathlib.Path, library: str, tcc: List[str]) -> Iterator[Outcome]:
     yield from recorded(folder, library, tcc)
     yield from retold(folder)
     yield from neighbours()
     yield from apart()
     yield from by_definition(tcc, 150)
-    yield from of_etcd()

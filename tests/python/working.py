@@ -1,4 +1,4 @@
-"""The clients that the recorders of recipes/ share: their values, their limits, and how what they did is written."""
+"""What the recorders of recipes/ share: the values of clients, what they may be asked for, and how what they did is written."""
 import argparse
 import contextlib
 import io
@@ -7,8 +7,7 @@ import pathlib
 import signal
 import subprocess
 import sys
-import threading
-from typing import Iterator, List
+from typing import Dict, Iterator, List
 
 from counted import Outcome
 from helpers import SECONDS, differs, run
@@ -16,72 +15,58 @@ from helpers import SECONDS, differs, run
 # A recorder whose clients write to nothing; one of them ends early where it is asked to.
 RECORDER = """
 import sys
-from tcc import clients
-from tcc.words import command_line
+from tcc.common.words import command_line
+from tcc.harness import Connection, Found, Store, recipe
 
-class Nothing(clients.Store):
-    def broken(self):
-        return (ConnectionError,)
-    def connections(self, held):
-        return [None]
-    def turn(self, client, connections):
-        with client.transaction("n0") as one:
-            one.write("x", client.new_value())
-        if client.number == 2 and "b." in str(sys.argv):
-            raise ValueError("no more")
+class Nothing(Connection):
+    def read(self, key):
+        return Found()
+    def write(self, key, value):
+        return None
 
-sys.exit(clients.write_records(lambda asked: clients.run_clients(Nothing(), asked), clients.arguments(command_line("", "")), "", ""))
+class Nowhere(Store):
+    def connect(self, node):
+        return Nothing()
+
+def turn(client):
+    client.do("n0", [], ["x"])
+    if client.number == 2 and "b." in str(sys.argv):
+        raise ValueError("no more")
+
+sys.exit(recipe.recorded(lambda asked, folder: recipe.played(asked, folder, Nowhere(), lambda keys: turn),
+                         recipe.arguments(command_line("", ""))))
 """
 
 
-class Map:
-    """A store of one map, all of whose transactions commit."""
-
-    def __init__(self):
-        self.values, self.lock = {}, threading.Lock()
-
-
 def five_clients(folder: pathlib.Path, tcc: List[str]) -> Iterator[Outcome]:
-    """Five clients: each value is written once, and each has a session of its own."""
-    from tcc import clients, noted
+    """Five clients at a store in memory: each value is written once, and each has a session of its own."""
+    from replicas import Memory
+    from tcc.harness import Goal, Keys, Plan, play
 
-    class Store(clients.Store):
-        def broken(self):
-            return (ConnectionError,)
+    def turn(client) -> None:
+        key = Keys(3).some(client)
+        client.do("n0", [key], [key])
 
-        def connections(self, held):
-            return [shared]
-
-        def turn(self, client, connections):
-            with connections[0].lock, client.transaction() as one:
-                key = client.some_key()
-                one.read(key, connections[0].values.get(key, 0))
-                value = client.new_value()
-                one.write(key, value)
-                connections[0].values[key] = value
-
-    shared = Map()
-    asked = argparse.Namespace(clients=5, transactions=40, keys=3, seconds=60, seed=1, keep_sessions=False, at_least=0, pause=0, watch=False)
-    done = clients.run_clients(Store(), asked).done
-    written = [pair for one in done for pair in one.writes()]
-    yield differs("values of five clients", (200, 200), (len(written), len({value for _, value in written})))
-    yield differs("sessions of five clients", {"c%d" % number for number in range(1, 6)}, {one.session for one in done})
-    path = folder / "five.csv"
-    path.write_text("".join(line + "\n" for line in noted.records(done)))
-    answered = subprocess.run([*tcc, "explain", "--require", "200", str(path)], capture_output=True, timeout=SECONDS, check=False)
+    played = play(Memory(), turn, Plan(folder / "five", Goal(60, most=40), clients=5))
+    path = folder / "five/records.csv"
+    lines = [line.split(",") for line in path.read_text().split()]
+    written = [one[3] for one in lines if one[1] == "w"]
+    yield differs("values of five clients", (100, 100), (len(written), len(set(written))))
+    yield differs("sessions of five clients", {"c%d" % number for number in range(1, 6)}, {one[0] for one in lines})
+    answered = subprocess.run([*tcc, "explain", "--require", str(played.worked.transactions), str(path)], capture_output=True, timeout=SECONDS, check=False)
     yield differs("the answer for five clients", 0, answered.returncode)
 
 
 def limits() -> Iterator[Outcome]:
     """Clients times transactions may be what `tcc` takes, and no more."""
-    from tcc import clients
+    from tcc.harness import recipe
     for words, wanted in ((["--clients", "5", "--transactions", "3355443"], "taken"), (["--clients", "5", "--transactions", "3355444"], "refused"),
                           (["--clients", "4095", "--transactions", "4097"], "taken"), (["--clients", "4095", "--transactions", "4098"], "refused"),
                           (["--clients", "4096"], "refused"), (["--transactions", "16777216"], "refused")):
         before, sys.argv = sys.argv, ["record.py", *words]
         try:
             with contextlib.redirect_stderr(io.StringIO()):
-                clients.arguments(argparse.ArgumentParser())
+                recipe.arguments(argparse.ArgumentParser())
             got = "taken"
         except SystemExit:
             got = "refused"
@@ -90,29 +75,36 @@ def limits() -> Iterator[Outcome]:
         yield differs(" ".join(words), wanted, got)
 
 
+def steps(path: pathlib.Path) -> Dict[str, List[str]]:
+    """What the sessions of a file do, each in its order."""
+    found: Dict[str, List[str]] = {}
+    for line in path.read_text().split():
+        found.setdefault(line.split(",")[0], []).append(line.split(",")[1])
+    return found
+
+
 def written(folder: pathlib.Path, library: str) -> Iterator[Outcome]:
     """How records are written: whole, or under no name; and the status where a client ended early."""
     words = [sys.executable, "-c", RECORDER, "--clients", "2", "--transactions", "3"]
-    whole = ["c%d,%s" % (number, each) for number in (1, 2) for count in range(1, 4)
-             for each in ("begin", "w,x,%d" % (4096 * count + number), "commit")]
+    whole = {"c%d" % number: ["begin", "w", "commit"] * 3 for number in (1, 2)}
     done = run([*words, "-o", str(folder / "a.csv"), "--notes", str(folder / "a.notes")], library)
-    yield differs("records into a file", (0, "", whole), (done.returncode, done.stdout, (folder / "a.csv").read_text().split()))
+    yield differs("records into a file", (0, "", whole), (done.returncode, done.stdout, steps(folder / "a.csv")))
     mask = os.umask(0)
     os.umask(mask)
     modes = [(folder / name).stat().st_mode & 0o777 for name in ("a.csv", "a.notes")]
     yield differs("who may read them", [0o666 & ~mask] * 2, modes)
-    told = [line.split(",")[:2] for line in (folder / "a.notes").read_text().splitlines()[1:]]
+    told = sorted(line.split(",")[:2] for line in (folder / "a.notes").read_text().splitlines()[2:])
     yield differs("its annotations", [["c%d/%d" % (number, place), "n0"] for number in (1, 2) for place in (1, 2, 3)], told)
     done = run([*words, "-o", str(folder / "b.csv")], library)
     early = "client 2 ended early, ValueError: no more" in done.stderr
-    yield differs("a client that ends early", (1, True, whole[:12]), (done.returncode, early, (folder / "b.csv").read_text().split()))
+    yield differs("a client that ends early", (1, True, whole["c1"][:3]), (done.returncode, early, steps(folder / "b.csv")["c2"]))
     held = folder / "held.csv"
     held.write_text("what was there\n")
     limited = ["bash", "-c", 'ulimit -f 1; exec "$@"', "bash", sys.executable, "-c", RECORDER, "--clients", "2", "--transactions", "300"]
     done = run([*limited, "-o", str(held)], library)
     yield differs("records without room", (1, "what was there\n", ["held.csv"]),
                   (done.returncode, held.read_text(), [name for name in os.listdir(folder) if name.startswith("held.csv")]))
-    said = "the records can't be written" in done.stderr and "Traceback" not in done.stderr
+    said = "File too large" in done.stderr and "Traceback" not in done.stderr
     yield "what is said of it", None if said else done.stderr
     with open("/dev/full", "w") as nowhere:
         done = subprocess.run(words, stdout=nowhere, stderr=subprocess.PIPE, text=True, timeout=SECONDS, check=False,
@@ -121,11 +113,11 @@ def written(folder: pathlib.Path, library: str) -> Iterator[Outcome]:
     yield "an output without room", None if done.returncode == 1 and said else "%d, %s" % (done.returncode, done.stderr)
 
 
-def warned() -> Iterator[Outcome]:
+def warned(folder: pathlib.Path) -> Iterator[Outcome]:
     """What is said of a limit that is passed, and nothing at it."""
-    from tcc.limits import LARGE_SESSIONS, MAX_KEYS, MAX_SESSIONS, MAX_TRANSACTIONS
-    from tcc.noted import Transaction, warnings
-    beyond, most = LARGE_SESSIONS + 1, "tcc explain takes at most %d, so say --large"
+    from tcc.common.limits import LARGE_SESSIONS, MAX_KEYS, MAX_SESSIONS, MAX_TRANSACTIONS
+    from tcc.harness.recipe import warnings
+    beyond, most, path = LARGE_SESSIONS + 1, "tcc explain takes at most %d, so say --large", folder / "warned.csv"
     for sessions, keys, transactions, wanted in (
             (MAX_SESSIONS, MAX_KEYS, MAX_TRANSACTIONS, []),
             (MAX_SESSIONS + 1, 1, MAX_SESSIONS + 1, ["%d sessions: " % (MAX_SESSIONS + 1) + most % MAX_SESSIONS]),
@@ -133,23 +125,24 @@ def warned() -> Iterator[Outcome]:
             (MAX_SESSIONS, 1, MAX_TRANSACTIONS + 1, ["%d transactions: " % (MAX_TRANSACTIONS + 1) + most % MAX_TRANSACTIONS]),
             (beyond, 1, beyond, ["%d sessions: tcc takes at most %d, so make the run shorter" % (beyond, LARGE_SESSIONS),
                                  "%d transactions: " % beyond + most % MAX_TRANSACTIONS])):
-        done = [Transaction("s%d" % (number % sessions), [("w", "k%d" % (number % keys), number + 1)], True) for number in range(transactions)]
-        yield differs("what is said of %d sessions, %d keys and %d transactions" % (sessions, keys, transactions), wanted, list(warnings(done)))
+        path.write_text("".join("s{0},begin\ns{0},w,k{1},{2}\ns{0},commit\n".format(number % sessions, number % keys, number + 1)
+                                for number in range(transactions)))
+        yield differs("what is said of %d sessions, %d keys and %d transactions" % (sessions, keys, transactions), wanted, list(warnings(path)))
 
 
 def unplayed() -> Iterator[Outcome]:
     """The status where nothing was recorded: by a server that doesn't answer in time the round may be played again, else not."""
-    from tcc import clients
+    from tcc.harness import NoServer, Unplayed, recipe
     asked, kept = argparse.Namespace(output=None, notes=None), signal.getsignal(signal.SIGTERM)
     try:
-        for error, wanted in ((clients.NoServer("late"), clients.UNPLAYED), (clients.Unplayed("too few"), 75), (OSError("full"), 1),
+        for error, wanted in ((NoServer("late"), recipe.UNPLAYED), (Unplayed("too few"), 75), (OSError("full"), 1),
                               (subprocess.SubprocessError("no"), 75), (ImportError("none"), 1)):
-            def fails(_, error=error):
+            def fails(_, folder, error=error):
                 raise error
 
             said = io.StringIO()
             with contextlib.redirect_stderr(said):
-                status = clients.write_records(fails, asked, "a library", "a package")
+                status = recipe.recorded(fails, asked, "a library", "a package")
             yield differs("status of %r" % error, (wanted, 1), (status, len(said.getvalue().splitlines())))
     finally:
         signal.signal(signal.SIGTERM, kept)
@@ -158,6 +151,6 @@ def unplayed() -> Iterator[Outcome]:
 def outcomes(folder: pathlib.Path, library: str, tcc: List[str]) -> Iterator[Outcome]:
     yield from five_clients(folder, tcc)
     yield from limits()
-    yield from warned()
+    yield from warned(folder)
     yield from unplayed()
     yield from written(folder, library)

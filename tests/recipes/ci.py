@@ -120,9 +120,9 @@ def wrong_step(files: Dict[str, str], status: int, printed: str, program: str) -
     with tempfile.TemporaryDirectory() as name:
         folder = pathlib.Path(name)
         shutil.copytree(TOP / "recipes/ci", folder / "recipes/ci")
-        (folder / "records").mkdir()
+        (folder / "clients").mkdir()
         for file, text in files.items():
-            (folder / "records" / file).write_text(text)
+            (folder / "clients" / file).write_text(text)
         # As a forge runs it: by a shell that ends with the first command that fails.
         done = subprocess.run(["bash", "-e", "-c", script_of("Judge")], cwd=folder, env={**os.environ, "TCC": program},
                               capture_output=True, text=True, timeout=SECONDS, check=False)
@@ -132,7 +132,7 @@ def wrong_step(files: Dict[str, str], status: int, printed: str, program: str) -
             return "printed %r" % done.stdout
         if (status != 0) != ("judge.sh: " in done.stderr):
             return "standard error: %r" % done.stderr
-        kept = {path.name for path in (folder / "records/judged").iterdir()}
+        kept = {path.name for path in (folder / "clients/judged").iterdir()}
         return None if "records" in kept else "kept %s" % sorted(kept)
 
 

@@ -9,7 +9,6 @@ import contextlib
 import importlib.util
 import io
 import pathlib
-import random
 import re
 import subprocess
 import sys
@@ -22,6 +21,8 @@ TOP = pathlib.Path(__file__).resolve().parent.parent.parent
 sys.path.insert(0, str(TOP / "tests"))
 sys.path.insert(0, str(TOP / "python"))
 from counted import Outcome  # noqa: E402
+from tcc import Recorder, harness  # noqa: E402
+from tcc.harness import client as harness_client  # noqa: E402
 
 SECONDS = 1800
 WORK = [(["x"], ["x", "y"]), (["x", "y"], []), ([], ["y"]), (["z"], ["x"])]
@@ -125,42 +126,70 @@ def documented(cuts: Dict[int, str], keeps: bool) -> Tuple[Server, Done]:
     return server, done
 
 
+class Cut(harness.Connection):
+    """A connection of the harness over one to the map."""
+
+    def __init__(self, one: Connection):
+        self.one = one
+
+    def read(self, key: str) -> harness.Found:
+        return harness.Found(self.one.read(key))
+
+    def write(self, key: str, value: int) -> None:
+        self.one.write(key, value)
+
+    def commit(self) -> None:
+        self.one.commit()
+
+    def rollback(self) -> None:
+        """What was refused is gone already."""
+
+    def close(self) -> None:
+        self.one.close()
+
+
+class Store(harness.Store):
+    """The map as a store of the harness."""
+
+    atomic, refused = harness.Atomic.TRANSACTION, (Refused,)
+
+    def __init__(self, server: Server):
+        self.server = server
+
+    def connect(self, node: str) -> Cut:
+        return Cut(self.server.connect())
+
 def recorded(cuts: Dict[int, str], keeps: bool) -> Tuple[Server, Done]:
-    """What the client of the recorders notes, and after it another one that reads all."""
-    from tcc import clients
+    """What a client of the harness notes, and after it another one that reads all."""
+    harness_client.RECONNECT_SECONDS = 0.0
+    server, pace = Server(cuts), harness.Pace(statement=0.0)
+    with tempfile.TemporaryDirectory() as folder:
+        path = pathlib.Path(folder, "records.csv")
+        with Recorder(path) as recorder:
+            for number, work in ((1, WORK), (2, [(["x", "y"], [])])):
+                left = iter(work)
+                client = harness.Client(Store(server), recorder, number, harness.Lag(), pace=pace, keeps_session=keeps)
 
-    clients.PAUSE_SECONDS = 0.0
-    server = Server(cuts)
+                def turn(one: harness.Client, left=left) -> None:
+                    one.connection_to("n0")  # one that is refused uses up no work
+                    one.do("n0", *next(left, (["x"], [])))
 
-    class Store(clients.Store):
-        def __init__(self, work):
-            self.work = iter(work)
+                client.work(turn, lambda one: one.ended >= len(work))
+                server.cuts = {}
+        return server, noted(path)
 
-        def broken(self):
-            return (OSError,)
 
-        def connections(self, held):
-            return [held.enter_context(contextlib.closing(server.connect()))]
-
-        def turn(self, client, connections):
-            reads, writes = next(self.work, (["x"], []))
-            with contextlib.suppress(Refused), client.transaction(refused=(Refused,)) as mine:
-                for key in reads:
-                    mine.read(key, connections[0].read(key) or 0)
-                for key in writes:
-                    value = client.new_value()
-                    mine.write(key, value)
-                    connections[0].write(key, value)
-                mine.committing()
-                connections[0].commit()
-
-    both, until = [], time.monotonic() + SECONDS
-    for number, work in ((1, WORK), (2, [(["x", "y"], [])])):
-        both.append(clients.Client(Store(work), number, 2, random.Random(1), keeps))
-        both[-1].work(clients.Much(len(work), 0, until, until))
-        server.cuts = {}
-    ends = {True: "commit", False: "abort", None: "unknown"}
-    return server, [(one.session, one.operations, ends[one.committed]) for client in both for one in client.done]
+def noted(path: pathlib.Path) -> Done:
+    """The transactions of a file, as a client notes them."""
+    done: Done = []
+    for session, does, *pair in (line.split(",") for line in path.read_text().split()):
+        if does == "begin":
+            steps: List[Tuple[str, str, int]] = []
+        elif pair:
+            steps.append((does, pair[0], int(pair[1])))
+        else:
+            done.append((session, steps, does))
+    return done
 
 
 def untrue(server: Server, done: Done, keeps: bool) -> Iterator[str]:
@@ -239,17 +268,14 @@ def as_shown() -> Iterator[Outcome]:
 
 
 def annotated() -> Iterator[Outcome]:
-    """The annotations that recorders write are read as they were written."""
-    from tcc.noted import Transaction, annotations
-    from tcc.notes import Note, read_notes, write_notes
-    done = [Transaction("c1", [], True, "n0", 0.5), Transaction("c2", [], True), Transaction("c1", [], False, "n2", 1.25, "a, b")]
+    """Annotations are read as they were written."""
+    from tcc.common.notes import Note, read_notes, write_notes
+    wanted = {"c1/1": Note("n0", "0.500000"), "c2/1": Note(), "c1/2": Note("n2", "1.250000", note="a, b")}
     with tempfile.TemporaryDirectory() as folder:
         path = pathlib.Path(folder, "notes.csv")
-        write_notes(path, annotations(done))
+        write_notes(path, wanted.items())
         text, read = path.read_text(), read_notes(path)
-    wanted = 'transaction,node,time,note\nc1/1,n0,0.500000,\nc2/1,,,\nc1/2,n2,1.250000,"a, b"\n'
-    yield "annotations", None if text == wanted else "wrote %r" % text
-    wanted = {"c1/1": Note("n0", "0.500000"), "c2/1": Note(), "c1/2": Note("n2", "1.250000", note="a, b")}
+    yield "annotations", None if text == 'transaction,node,time,note\nc1/1,n0,0.500000,\nc2/1,,,\nc1/2,n2,1.250000,"a, b"\n' else "wrote %r" % text
     yield "annotations, read", None if read == wanted else "read %s" % read
     said = [one.text() for one in read.values()]
     yield "annotations, said", None if said == ["at n0, 0.500000 s", "", "at n2, 1.250000 s: a, b"] else str(said)

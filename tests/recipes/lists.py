@@ -211,14 +211,20 @@ class Slow:
 
 
 def encoded(history: List[Txn], is_log: bool):
-    """The history as `tcc.lists` has it, in the order in which the transactions ended."""
-    from tcc import lists
-    outcomes = {"ok": lists.OK, "fail": lists.FAIL, "info": lists.INFO}
+    """The history as `tcc.imports.lists` has it, in the order in which the transactions ended."""
+    from tcc.imports import list_history
+    from tcc.imports.lists import Lists
+    outcomes = {"ok": list_history.OK, "fail": list_history.FAIL, "info": list_history.INFO}
     sessions = sorted({one.session for one in history})
-    told = [lists.Transaction(sessions.index(one.session), outcomes[one.outcome], number + 1, one.begun, [
-        lists.Step(lists.APPEND, step[1], step[2]) if step[0] == "append" else lists.Step(lists.LIST, step[1], "".join(" " + each for each in step[2]))
-        for step in one.steps]) for number, one in enumerate(history)]
-    return lists.Lists(told, ["p%d" % one for one in sessions], is_log)
+
+    def step_of(does: str, key: str, value) -> list_history.Step:
+        if does == "append":
+            return list_history.Step(list_history.APPEND, key, value)
+        return list_history.Step(list_history.LIST, key, "".join(" " + each for each in value))
+
+    told = [list_history.Transaction(sessions.index(one.session), outcomes[one.outcome], number + 1, one.begun,
+                                     [step_of(step[0], step[1], step[2]) for step in one.steps]) for number, one in enumerate(history)]
+    return Lists(told, ["p%d" % one for one in sessions], is_log)
 
 
 def judged(records: str, tcc: List[str]) -> int:

@@ -152,6 +152,17 @@ ODD = r"""
 {:type :ok, :f :txn, :value [[:r "<script>alert(1)</script>" nil]], :process 0, :time 4000000000, :node "<b>n2", :index 4}
 {:type :info, :f :stop-<i>, :value nil, :process :nemesis, :time 5000000000, :index 5}
 """
+# A list that ends with the first of two appends of one transaction.
+G1B = r"""
+{:type :ok, :f :txn, :value [[:append 8 1] [:append 8 2]], :process 0, :index 0}
+{:type :ok, :f :txn, :value [[:r 8 [1]]], :process 1, :index 1}
+"""
+# Rows that were there before: 0 in an import, and 7 at two keys among records; and a value that was written twice.
+PRELOADED = r"""
+{:type :ok, :f :txn, :value [[:r 8 0] [:w 8 5]], :process 0, :index 0}
+{:type :ok, :f :txn, :value [[:r 9 0]], :process 0, :index 1}
+"""
+TWICE = "a,begin\na,w,x,5\na,commit\nb,begin\nb,w,x,5\nb,commit\nb,begin\nb,r,y,7\nb,r,z,7\nb,r,u,6\nb,commit\n"
 # For each history its status, words that the page has, and boxes of its first pictures.
 HISTORIES: Dict[str, Tuple[str, int, Tuple[str, ...], int]] = {
     "3 steps": ("examples/stale-read.csv", 1, ("Not causally consistent", "a wrote x = 1 in a/1 and read x = nil in a/2 (row 5).",
@@ -182,6 +193,12 @@ HISTORIES: Dict[str, Tuple[str, int, Tuple[str, ...], int]] = {
         "But p0/1 comes before p0/2: they are of session p0, in this order.", "Of 1 list 1 is contradicted"), 3),
     "lists that are right": (ORDERS.replace("[2 1 3]", "[1 2 3]"), 0, (
         "all 4 committed transactions that explains every list", "Of 1 list, 1 shows what another session appended, 1 of keys that several sessions append to"), 0),
+    "an intermediate list": (G1B, 1, ("An anomaly: intermediate read (G1b)",), 3),
+    "rows that were there before": (PRELOADED, 2, (
+        "If keys had 0 before they were written, as rows that were put there first, say <code>--initial 0</code> (2 of these operations read it).",), 3),
+    "a value written twice": (TWICE, 2, (
+        "b/1 wrote x = 5 (row 5), which a/1 also wrote.", "A value that was written twice is the test&#x27;s fault, not the store&#x27;s",
+        "If keys had 7 before they were written, as rows that were put there first, record its reads as reads of 0 (2 of these operations read it)."), 3),
     "aborted": ("examples/aborted-read.csv", 1, ("Not causally consistent", "Not judged: value from nowhere: 1", "aborted read (G1a)", "b/1 read x = 1 (row 5), which a/1 wrote, and that aborted.",
                                                  "value from nowhere"), 3),
     "internal": ("examples/future-read.csv", 1, ("internal", "future read"), 2),
@@ -327,14 +344,14 @@ def inputs(tcc: List[str]) -> Iterator[Outcome]:
 
 def drawn(tcc: List[str]) -> Iterator[Outcome]:
     """No line of a picture runs under a box that isn't one of its ends; each nemesis has a lane of its own."""
-    from tcc import chart, lanes
-    from tcc.answers import cycle_of
-    from tcc.rows import read_history
-    from tcc.terms import Terms
+    from tcc.show import chart, lanes, scene as scenes
+    from tcc.judging.answers import cycle_of
+    from tcc.common.rows import read_history
+    from tcc.show.terms import Terms
     for name, records in (("divergent writes", DIVERGENT), ("12 steps", ring(6))):
         ended = subprocess.run([*tcc, "explain", "--json"], input=records.encode(), capture_output=True, timeout=SECONDS, check=False)
         terms = Terms(read_history(io.StringIO(records)))
-        scene = lanes.scene_of(cycle_of(json.loads(ended.stdout)), terms)
+        scene = scenes.scene_of(cycle_of(json.loads(ended.stdout)), terms)
         made = lanes.picture(scene, terms, lanes.Size(236, 13, 86, 66, 950, 150))
         behind = []
         for edge in scene.edges:

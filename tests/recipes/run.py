@@ -25,7 +25,7 @@ what they saw, also where their connections are cut at every call (`clients.py`)
 records, and a script that is interrupted to say what it has. The lines of RECORDING for a large history have to end with its status
 (`scripts.py`). The pages of report.py have to be whole, and right in a browser where Chromium is there (`pages.py`). The demo of Redis
 has to show the answers of `tcc watch` while clients work, which needs no Redis (`watched.py`). The demos of
-recipes/redis, recipes/postgres, recipes/galera and recipes/etcd have to find what they show. Where their servers or their library
+recipes/redis, recipes/postgres, recipes/galera, recipes/etcd, recipes/zookeeper and recipes/nats have to find what they show. Where their servers or their library
 for Python aren't there, or a round couldn't be played on this machine, they are passed over, which is said.
 
 The wanted texts were worked out by hand from the definitions. Each difference is one line; the last line is
@@ -62,6 +62,8 @@ SECONDS = 1800
 # A demo plays on, and again, on a busy machine; asked to end it has so many to stop its servers.
 DEMO_SECONDS, END_SECONDS = 3600, 120
 WITHOUT_SERVER = 77
+SERVERS = ("redis", "postgres", "galera", "etcd", "zookeeper", "nats")
+WRONG_COMMAND_LINE = 64
 
 
 @dataclass(frozen=True)
@@ -153,11 +155,13 @@ def wrong(run: Run, tcc: List[str]) -> Optional[str]:
 
 
 def helps() -> Iterator[Outcome]:
-    """Whether the help of each script shows an example."""
+    """Whether the help of each script shows an example, and a wrong command line has a status of its own."""
     for script in sorted(path for path in RECIPES.glob("**/*.py") if path.read_text().startswith("#!")):
         ended = subprocess.run([sys.executable, str(script), "--help"], capture_output=True, timeout=SECONDS, check=False)
         has_example = ended.returncode == 0 and re.search(rb"^example:\s", ended.stdout, re.MULTILINE)
         yield "help of " + script.name, None if has_example else "status %d, or no example" % ended.returncode
+        ended = subprocess.run([sys.executable, str(script), "--no-such-option"], capture_output=True, timeout=SECONDS, check=False)
+        yield "wrong words of " + script.name, None if ended.returncode == WRONG_COMMAND_LINE and not ended.stdout else "status %d" % ended.returncode
 
 
 def demo(server: str, tcc: List[str]) -> Iterator[Outcome]:
@@ -182,19 +186,6 @@ def demonstrated(command: List[str]) -> Tuple[int, bytes, bytes]:
             running.terminate()
             output, errors = running.communicate(timeout=END_SECONDS)
         return running.returncode, output, errors
-
-
-def unknown_outcomes() -> Iterator[Outcome]:
-    """What recorders make of unknown outcomes: a record of their own."""
-    from tcc import noted as record  # which clients.py put on the path
-    done = [record.Transaction("a", [("w", "x", 1)], None), record.Transaction("b", [("w", "x", 2)], False, note="why"),
-            record.Transaction("c", [("r", "x", 1), ("w", "y", 2)], True)]
-    wanted = ["a,begin", "a,w,x,1", "a,unknown", "b,begin", "b,w,x,2", "b,abort", "c,begin", "c,r,x,1", "c,w,y,2", "c,commit"]
-    got = list(record.records(done))
-    yield "records of unknown outcomes", None if got == wanted else "wanted %s, got %s" % (wanted, got)
-    notes = [note.note for _, note in record.annotations(done)]
-    yield "annotations of unknown outcomes", None if notes == ["unknown outcome", "why", ""] else str(notes)
-    yield "count of unknown outcomes", None if record.summary(done) == "3 transactions; 1 of unknown outcome" else record.summary(done)
 
 
 def first_example(tcc: List[str]) -> Iterator[Outcome]:
@@ -266,8 +257,8 @@ def outcomes(names: List[str], tcc: List[str]) -> Iterator[Outcome]:
     if names:
         return
     parts = {"helps": helps(), "first example": first_example(tcc), "clients": clients.outcomes(tcc), "scripts": scripts.outcomes(tcc),
-             "lists": lists.outcomes(tcc), "ci": ci.outcomes(tcc), "pages": pages.outcomes(tcc), "unknown outcomes": unknown_outcomes(),
-             "packed": packed(tcc), "watched": watched.outcomes(tcc), **{"demo of " + server: demo(server, tcc) for server in ("redis", "postgres", "galera", "etcd")}}
+             "lists": lists.outcomes(tcc), "ci": ci.outcomes(tcc), "pages": pages.outcomes(tcc),
+             "packed": packed(tcc), "watched": watched.outcomes(tcc), **{"demo of " + server: demo(server, tcc) for server in SERVERS}}
     for about, part in parts.items():
         yield from guarded(about, part)
 

@@ -34,7 +34,7 @@ def random_history(seed: int, is_edn: bool, appends: bool) -> bytes:
     pick = random.Random(seed)
     keys = [":x", "y", '"z"', "7", '"7"', ":a/b", "{:k 1}"] if is_edn else ['"x"', '"y"', "7", '"7"', '"a b"', "true", "[1]"]
     nil = "nil" if is_edn else "null"
-    values = ["5", "6", "+8N", "0", "-3", ":v", '"v"', "1.5", "true"] if is_edn else ["5", "6", "0", "-3", '"v"', "1.5", "true"]
+    values = ["5", "6", "+8N", "0", "-3", ":v", '"w"', "1.5", "true"] if is_edn else ["5", "6", "0", "-3", '"v"', "1.5", "true"]
     lines, counter, process = [], 10, list(range(4))
     for _ in range(400):
         client = pick.randrange(4)
@@ -69,9 +69,9 @@ def random_history(seed: int, is_edn: bool, appends: bool) -> bytes:
 
 def both_ways() -> Iterator[Outcome]:
     """The usual lines and the reader of any line give the same records, table and map."""
-    from tcc import jepsen
-    from tcc.imported import Imported
-    from tcc.progress import Doing
+    from tcc.imports import jepsen
+    from tcc.imports.imported import Imported
+    from tcc.common.progress import Doing
 
     def told(text: bytes, is_usual: bool) -> List[object]:
         into = Imported({"null"})
@@ -102,10 +102,10 @@ def random_value(pick: random.Random, depth: int) -> str:
 def random_edn() -> Iterator[Outcome]:
     """Of 100,000 operations with fields of any value of EDN each is read, and of lines that something is wrong with each ends with its
     line, in seconds."""
-    from tcc import jepsen
-    from tcc.imported import Imported
-    from tcc.operations import Untold
-    from tcc.progress import Doing
+    from tcc.imports import jepsen
+    from tcc.imports.imported import Imported
+    from tcc.imports.operations import Untold
+    from tcc.common.progress import Doing
 
     def told(text: str) -> Imported:
         return jepsen.imported(jepsen.Reading(io.BytesIO(text.encode()), Imported({"null"}), Doing(""), ""), True)
@@ -169,7 +169,8 @@ def random_records(seed: int) -> str:
 def contradicted_by_definition(history, level: str) -> List[Tuple[str, int, str, str, str]]:
     """The reads by C from A, each with its row, that a write by B contradicts: C is reached from B, at `atomic` by one pair, and B
     from A, or A is `init`. Each has the first name that fits any such B, and the least B that this fits."""
-    from tcc.contradicted import NAMES, Graph
+    from tcc.judging.contradicted import NAMES
+    from tcc.judging.graph import Graph
     graph = Graph(history)
     count = len(graph.transactions)
     pair = [[one != other and graph.sessions[one] == graph.sessions[other] and one < other
@@ -209,8 +210,8 @@ def rank_of_name(graph: "Graph", reader: int, key: str, writer: int) -> int:
 
 def contradicted_reads() -> Iterator[Outcome]:
     """The list of contradicted reads is that of the definition, at both levels, by searches and by clocks."""
-    from tcc import contradicted
-    from tcc.rows import read_history
+    from tcc.judging import contradicted
+    from tcc.common.rows import read_history
     searched, told = contradicted.SEARCHED, 0
     for way in (0, searched):
         contradicted.SEARCHED = way
@@ -236,8 +237,8 @@ def contradicted_reads() -> Iterator[Outcome]:
 def surveys_in_python() -> Iterator[Outcome]:
     """The package's survey is that of tests/survey/definition.py, on its random histories: of more sessions than a block has room for, of
     reads after own writes, of operations that can't be judged. Blocks of one session too, by searches and by clocks."""
-    from tcc import contradicted
-    from tcc.rows import read_history
+    from tcc.judging import contradicted
+    from tcc.common.rows import read_history
     definition, drawn = (module_of(TOP / "tests/survey" / name) for name in ("definition.py", "run.py"))
     kept, counts = (contradicted.SEARCHED, contradicted.BLOCK), Counter()
     dice, wrong = random.Random(7), None

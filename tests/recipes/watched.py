@@ -15,7 +15,11 @@ HERE = pathlib.Path(__file__).resolve().parent
 RECIPES = HERE.parent.parent / "recipes/redis"
 SECONDS = 1800
 TRANSACTIONS, SESSIONS = 800, 4
-RECORDED = "record.py: %d transactions; 0 of unknown outcome\n" % TRANSACTIONS
+# What a recorder says in the end, by how many reads lag; at the replica nobody sees its own writes soon.
+RECORDED = {"primary": r"record.py: %d transactions; 0 of unknown outcome\nrecord.py: 0 of [0-9,]+ reads were older than the newest finished write: "
+                       r"nothing lagged, so a consistent answer says little\n",
+            "replica": r"record.py: %d transactions; 0 of unknown outcome\nrecord.py: [1-9][0-9]* of [0-9,]+ reads were older than the newest finished "
+                       r"write: .* at replica\nrecord.py: [1-9][0-9]* reads were older than what their own client had seen\n"}
 CONSISTENT = re.compile(r"tcc watch, [0-9.]+ s: consistent: ([0-9]+) transactions, ([0-9]+) sessions\n")
 # At the replica nobody sees its own first write.
 ANOMALY = re.compile(r"tcc watch, [0-9.]+ s: anomaly: 3 steps, stale-initial-read\nsession init -> (c[1-4])/1\n"
@@ -54,17 +58,18 @@ def meanwhile(lines: List[str], place: str) -> str:
 
 def of_primary(text: str) -> Optional[str]:
     """What is wrong with the answers for the primary: each is one line, with more transactions than before, and the last has all."""
-    *answers, recorded = text.splitlines(keepends=True) or [""]
+    said = re.search(RECORDED["primary"] % TRANSACTIONS + "$", text)
+    answers = text[:said.start() if said else None].splitlines(keepends=True)
     counts = [tuple(map(int, found.groups())) for found in map(CONSISTENT.fullmatch, answers) if found]
     grow = all(one[0] < other[0] for one, other in zip(counts, counts[1:]))
-    is_right = len(counts) == len(answers) > 1 and grow and counts[-1] == (TRANSACTIONS, SESSIONS) and recorded == RECORDED
+    is_right = len(counts) == len(answers) > 1 and grow and counts[-1] == (TRANSACTIONS, SESSIONS) and said
     return None if is_right else text
 
 
 def of_replica(text: str) -> Optional[str]:
     """What is wrong with those for the replica: the anomaly in full, and nothing after it."""
     found = ANOMALY.match(text)
-    return None if found and text[found.end():] == RECORDED else text
+    return None if found and re.fullmatch(RECORDED["replica"] % TRANSACTIONS, text[found.end():]) else text
 
 
 def demo(tcc: List[str]) -> Iterator[Outcome]:
@@ -86,8 +91,7 @@ def without_program() -> Iterator[Outcome]:
         done = subprocess.run(words, env=variables(folder), capture_output=True, text=True, timeout=SECONDS, check=False)
         ends = done.stdout.splitlines().count("c1,commit")
         yield "a recorder without a watch", None if (done.returncode, ends) == (0, 20) else "status %d, %d, %s" % (done.returncode, ends, done.stderr)
-        said = re.match(r"tcc watch, [0-9.]+ s: there is no program %s[^\n]*\nrecord.py: 80 transactions; 0 of unknown outcome\n$" % (folder / "tcc"),
-                        done.stderr)
+        said = re.fullmatch(r"tcc watch, [0-9.]+ s: there is no program %s[^\n]*\n%s" % (folder / "tcc", RECORDED["primary"] % 80), done.stderr)
         yield "what it says", None if said else repr(done.stderr)
 
 

@@ -1,14 +1,15 @@
 #!/usr/bin/env python3
 """Runs a built `tcc` on the cases of this folder and compares what it does, byte by byte.
 
-    run.py [--tcc PATH] [--only TEXT] [--workers N [--searched] | --checker [PATH]] [NAME ..]
+    run.py [--tcc PATH] [--only TEXT] [--small BYTES] [--workers N [--searched] | --checker [PATH]] [NAME ..]
 
 PATH is split into words, so that "env X=1 tcc" will do. Each difference is one line; the last line is `N passed, M failed`.
 README.md says what a case holds. With --workers each run of `explain` gets that number of workers, unless it says one itself, and
 has to do the same as without it. With --searched only those are done that get it and show an anomaly. They get a certificate too,
 where they have none and are within the default limits: for its tables workers search, and without it an answer is found as those of
 large histories are.
-With --checker the runs of `check` alone are done, by the program that has nothing else, called `tcc` by a link.
+With --checker the runs of `check` alone are done, by the program that has nothing else, called `tcc` by a link. With --small those
+are left out that read or write a text of more bytes, and those that have to end within some seconds.
 """
 import concurrent.futures
 import contextlib
@@ -259,6 +260,13 @@ def of_check(run):
     return run if run["arguments"][:1] == ["check"] else None
 
 
+def of_small(run, most, picked):
+    """The run, where it is picked, and none of its texts has more bytes; else None."""
+    parts = [run.get("input", []), run.get("output", []), *run["files"].values()]
+    is_small = "seconds" not in run and all(one == "some" or len(text(one)) <= most for one in parts)
+    return picked(run) if is_small else None
+
+
 def difference(tcc, run, seconds):
     """What the program did otherwise than wanted, or None."""
     seconds = run.get("seconds", seconds)
@@ -360,6 +368,7 @@ def main():
     ask.add_argument("--workers", type=int, help="for each run of explain that doesn't say how many itself")
     ask.add_argument("--searched", action="store_true", help="only runs that get these workers and show an anomaly")
     ask.add_argument("--checker", nargs="?", const=CHECKER, metavar="PATH", help="the program that has `check` alone, by default the built one")
+    ask.add_argument("--small", type=int, metavar="BYTES", help="only runs whose texts have at most so many bytes")
     ask.add_argument("names", nargs="*", help="only these cases")
     asked = ask.parse_args()
     names = asked.names or sorted(path.stem for path in CASES.glob("*.json"))
@@ -371,6 +380,8 @@ def main():
         if asked.checker:
             picked, tcc = of_check, [os.path.join(folder, "tcc")]
             os.symlink(os.path.abspath(asked.checker), tcc[0])
+        if asked.small:
+            picked = functools.partial(of_small, most=asked.small, picked=picked)
         every = [named for path in paths for named in picked_runs(path, picked)]
         with concurrent.futures.ThreadPoolExecutor(processors()) as pool:
             return status_of(pool.map(functools.partial(outcome_of, tcc, asked.seconds), every))

@@ -62,6 +62,16 @@ def unread(lines: List[str], changed: Set[str]) -> Optional[str]:
     return None
 
 
+def is_by_proof_alone(lines: List[str]) -> bool:
+    """Whether the check of a mutant that is refused says no more than that a proof names what the mutant took away.
+
+    Then no obligation failed that the check looked at, so it shows nothing of the contract.
+    """
+    said = [found[2] for found in map(LINE.match, lines) if found]
+    is_unproved = any(one.startswith("no proof") and UNPROVED.search(one) for one in said)
+    return not is_unproved and all(GONE.search(found[3]) for found in map(ERROR.match, lines) if found)
+
+
 def judged_alone(status: int, lines: List[str], changed: Set[str]) -> Optional[str]:
     """What is wrong with the check of one mutant with its whole crate, None where it was refused."""
     bad = unread(lines, changed) or next((one for one in lines if STALE.search(one)), None)

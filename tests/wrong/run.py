@@ -13,7 +13,9 @@ where its own function fails by itself: an obligation isn't proved, or a file of
 calls one that isn't proved doesn't count. Where a round doesn't compile, the mutants in whose bodies the errors are leave it, and
 the others are tried again. A round in which a function without a mutant fails by itself counts for nothing. What a round says
 nothing of is tried alone, with the whole crate. So is each that isn't in the body of one function, and each that neither its round
-refuses nor one of those that are left: there no mutant of what a function calls is refused any more.
+refuses nor one of those that are left: there no mutant of what a function calls is refused any more. One that is refused alone, and
+only since a proof names what it took away, is refused by its proof alone. That shows nothing of the contract: such mutants are
+counted apart and named at the end, and each wants another form, or a row or a test.
 
 Each crate has to be proved. With --after-gate `rt ci` has just passed on these sources: its libraries serve as they are. With
 --beside-gate it runs, and what it prints comes on standard input: a crate's turn comes once it is proved, one crate at a time, on
@@ -46,7 +48,7 @@ TOP = pathlib.Path(__file__).resolve().parent.parent.parent
 sys.path.insert(0, str(TOP / "tests"))
 from counted import Outcome, status_of  # noqa: E402
 from crates import stands_on  # noqa: E402
-from judging import judged, judged_alone  # noqa: E402
+from judging import is_by_proof_alone, judged, judged_alone  # noqa: E402
 from machine import free_memory, processors  # noqa: E402
 from mutants import PARTS, Mutant, Unusable, places_of, rounds_of  # noqa: E402
 
@@ -57,6 +59,8 @@ GATES_MEMORY = 3_000_000_000
 PROVED = re.compile(r"rt: (\w+) (?:proved$|is kept: )")
 # So many sums of a crate's refused mutants are kept at most, the newest.
 SUMS = 2_000
+# What a sum that is kept ends with where the mutant was refused by its proof alone.
+BY_PROOF = " by proof"
 UNKNOWN = "has no function `"
 SAYING = threading.Lock()
 
@@ -180,6 +184,7 @@ class Trial:
         self.repository, self.crate, self.end = repository, crate, end
         self.mutants: List[Mutant] = []
         self.found: Dict[str, Optional[str]] = {}
+        self.by_proof: Set[str] = set()
         self.kept = self.checks = 0
         self.seconds = 0.0
         for path in sorted((repository.folder(crate) / "wrong").iterdir()):
@@ -283,7 +288,12 @@ class Trial:
             shutil.rmtree(own)
         wrong = judged_alone(done.status, done.lines, {pair.file for pair in mutant.pairs})
         self.found[mutant.name] = wrong
-        if not wrong:
+        if wrong:
+            return
+        if is_by_proof_alone(done.lines):
+            self.by_proof.add(mutant.name)
+            say("%s: refused by its proof alone" % mutant.name)
+        else:
             say("%s: refused, alone" % mutant.name)
 
 
@@ -302,9 +312,11 @@ class Memory:
         """Takes what is kept of the same sums."""
         kept = set([] if self.anew else self.refused(trial))
         for name, key in self.sums(trial).items():
-            if key in kept:
+            if {key, key + BY_PROOF} & kept:
                 trial.found[name] = None
                 trial.kept += 1
+            if key + BY_PROOF in kept:
+                trial.by_proof.add(name)
 
     def refused(self, trial: Trial) -> List[str]:
         """The sums that are kept of a crate, the newest first; none where the file can't be read."""
@@ -318,7 +330,7 @@ class Memory:
         """Keeps the sums of what was refused, if they are what they were before."""
         if self.sums(trial) != before:
             return
-        new = [key for name, key in before.items() if trial.found.get(name, "") is None]
+        new = [key + (BY_PROOF if name in trial.by_proof else "") for name, key in before.items() if trial.found.get(name, "") is None]
         try:
             self.folder.mkdir(parents=True, exist_ok=True)
             half = self.folder / ("%s.%d" % (trial.crate, os.getpid()))
@@ -438,6 +450,8 @@ def outcomes(asked: argparse.Namespace) -> Iterator[Outcome]:
     lanes = asked.lanes or max(min(processors(), int(0.85 * free_memory()) // MEMORY), 1)
     for one in ended([it for it in trials if it not in done], memory, asked.after_gate or asked.beside_gate, lanes):
         yield from sorted(one.found.items())
+    by_proof = sorted(name for one in trials for name in one.by_proof)
+    print("%d refused by their proof alone: %s" % (len(by_proof), ", ".join(by_proof) or "none"))
     used = resource.getrusage(resource.RUSAGE_CHILDREN)
     print("%d mutants of %d crates, %d of them refused in an earlier run, %d not tried for want of time"
           % (sum(one.count() for one in trials), len(trials), sum(one.kept for one in trials), sum(len(one.untried()) for one in trials)))

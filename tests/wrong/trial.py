@@ -15,7 +15,7 @@ from typing import Dict, Iterable, Iterator
 HERE = pathlib.Path(__file__).resolve().parent
 sys.path.insert(0, str(HERE.parent))
 from counted import Outcome, status_of  # noqa: E402
-from judging import judged, judged_alone  # noqa: E402
+from judging import is_by_proof_alone, judged, judged_alone  # noqa: E402
 from mutants import Unusable, applied, function_at, pairs_of, places_of, rounds_of  # noqa: E402
 
 SOURCE = """//! Sums.
@@ -65,6 +65,11 @@ SAID = (
     ("a function without a mutant fails", [REFUSED, OTHER, ENDED], None),
     ("a lemma is refused", [REFUSED, LEMMA, ENDED], None),
     ("it doesn't compile", ["./src/m.rt:1:1: error[unknown-name]: `x`"], None),
+)
+ALONE = (
+    ("an obligation fails", [REFUSED, NO_NAME, UNFIT], False),
+    ("a proof doesn't fit", [OWN_PROOF, NO_NAME, UNFIT], False),
+    ("a proof alone names what is gone", [NO_NAME, UNFIT], True),
 )
 UNCOMPILED = ["./src/lib.rt:14:14: error[unknown-name]: `nobody`", "./src/lib.rt:6:15: error: the goal", "note"]
 PLACES = (("u16::from", "one_more"), ("one_more(number)", "two_more"), ("result ≡ number + 2", None), ("#![tactic", None),
@@ -133,6 +138,8 @@ def outcomes_of_texts(top: pathlib.Path) -> Iterator[Outcome]:
     for status, last, wanted in ((0, "logic=proved", "NOT REFUSED"), (2, "rattle: error", "BAD"), (3, "rattle: no verdict", "BAD")):
         yield "alone, status %d" % status, None if (judged_alone(status, [last], set()) or "").startswith(wanted) else last
     yield "alone, refused", judged_alone(1, [OTHER, "logic=not-proved"], set())
+    for what, lines, wanted in ALONE:
+        yield what, None if is_by_proof_alone(lines) == wanted else "wanted %s" % wanted
     mutant = top / "crates/sums/wrong/twice.edit"
     mutant.write_text("why: a trial\nfile: src/lib.rt\nold: number\nnew: none\n")
     try:

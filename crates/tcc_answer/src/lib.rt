@@ -1,4 +1,8 @@
 //! Answers: a commit order, or a cycle that none can keep, each with its certificate; their text and their JSON.
+//!
+//! Needs: a cycle or an order, and the form of certificates (`tcc_graph`, `tcc_cert`).
+//! Must hold: text, JSON and certificate are those of one answer.
+//! Kept for callers: `push_links_json`.
 #![tactic(auto)]
 
 mod answer;

@@ -1,5 +1,8 @@
 //! What programs need beside histories: how a text is written, how many workers search, and who receives the progress of a
 //! call.
+//!
+//! Needs: nothing.
+//! Must hold: a text is written whole, or the writer's fault is returned.
 #![tactic(auto)]
 
 mod progress;

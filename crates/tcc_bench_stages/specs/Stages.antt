@@ -1,10 +1,10 @@
 -- The words by which stages are asked for.
 use Rattle.std.specs.Prelude.{ℕ, List, codes}
-use Rattle.tcc_bench_stages.specs.declared.Stage.{Stage}
-use Rattle.tcc_bench_stages.specs.declared.Stage.TheVariants.{Csv, Rows, Snapshot, Resolve, Graph, Order, Near, Derive}
-use Rattle.tcc_bench_stages.specs.declared.Stage.TheVariants.{LargeSnapshot, LargeResolve, LargeGraph, LargeOrder, LargeCycle, LargeSlice, LargeAnswer, LargeSurvey, SurveyAnswer}
+use Rattle.tcc_bench_stages.specs.declared.TimedStage.{TimedStage}
+use Rattle.tcc_bench_stages.specs.declared.TimedStage.TheVariants.{Csv, Rows, Snapshot, Resolve, Graph, Order, Near, Derive}
+use Rattle.tcc_bench_stages.specs.declared.TimedStage.TheVariants.{LargeSnapshot, LargeResolve, LargeGraph, LargeOrder, LargeCycle, LargeSlice, LargeAnswer, LargeSurvey, SurveyAnswer}
 
-abbrev pub word_of : Stage → List ℕ
+abbrev pub word_of : TimedStage → List ℕ
 word_of Csv = codes "csv"
 word_of Rows = codes "rows"
 word_of Snapshot = codes "snapshot"

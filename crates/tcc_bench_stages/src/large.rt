@@ -1,5 +1,5 @@
 //! The stages of a history within the large limits.
-use crate::Stage;
+use crate::TimedStage;
 use crate::surveying::contradicted;
 use std::alloc::Global;
 use std::io::Read;
@@ -42,13 +42,18 @@ fn steps(links: &[Link]) -> u32 {
 }
 
 /// How many steps the cycle that is found has, 0 where there is none; or how many sessions its slice has.
-fn decided(alloc: Global, snapshot: &LargeSnapshot, level: Level, stage: Stage) -> Option<u32> {
+fn decided(
+    alloc: Global,
+    snapshot: &LargeSnapshot,
+    level: Level,
+    stage: TimedStage,
+) -> Option<u32> {
     let graph = graph_of(alloc, snapshot)?;
     let (decision, _order) = decide(alloc, &graph, level).ok()?;
     let Some(links) = decision.links() else {
         return Some(0);
     };
-    if stage == Stage::LargeSlice {
+    if stage == TimedStage::LargeSlice {
         let found = slice(alloc, snapshot, &graph, level, links).ok()?;
         return Some(found.map_or(0, |slice| slice.sessions()));
     }
@@ -60,15 +65,15 @@ pub fn run_large<R: Read + Drop>(
     alloc: Global,
     reader: R,
     level: Level,
-    stage: Stage,
+    stage: TimedStage,
 ) -> Option<u32> {
     let snapshot = large_snapshot_of(alloc, reader).ok()?;
     match stage {
-        Stage::LargeSnapshot => Some(snapshot.sessions()),
-        Stage::LargeResolve => resolved(alloc, &snapshot),
-        Stage::LargeGraph => Some(graph_of(alloc, &snapshot)?.count()),
-        Stage::LargeOrder => ordered(alloc, &graph_of(alloc, &snapshot)?, level),
-        Stage::LargeSurvey => contradicted(alloc, &graph_of(alloc, &snapshot)?, level),
+        TimedStage::LargeSnapshot => Some(snapshot.sessions()),
+        TimedStage::LargeResolve => resolved(alloc, &snapshot),
+        TimedStage::LargeGraph => Some(graph_of(alloc, &snapshot)?.count()),
+        TimedStage::LargeOrder => ordered(alloc, &graph_of(alloc, &snapshot)?, level),
+        TimedStage::LargeSurvey => contradicted(alloc, &graph_of(alloc, &snapshot)?, level),
         _ => decided(alloc, &snapshot, level, stage),
     }
 }

@@ -33,7 +33,7 @@ use tcc_rows::{Item, Rows, snapshot_of};
 
 /// How far a run goes.
 #[derive(Clone, Copy, PartialEq, Eq)]
-pub enum Stage {
+pub enum TimedStage {
     Csv,
     Rows,
     Snapshot,
@@ -54,16 +54,16 @@ pub enum Stage {
 }
 
 /// Whether a stage is one of a history within the large limits.
-fn is_large(stage: Stage) -> bool {
+fn is_large(stage: TimedStage) -> bool {
     matches!(
         stage,
-        Stage::LargeSnapshot
-            | Stage::LargeResolve
-            | Stage::LargeGraph
-            | Stage::LargeOrder
-            | Stage::LargeCycle
-            | Stage::LargeSlice
-            | Stage::LargeSurvey
+        TimedStage::LargeSnapshot
+            | TimedStage::LargeResolve
+            | TimedStage::LargeGraph
+            | TimedStage::LargeOrder
+            | TimedStage::LargeCycle
+            | TimedStage::LargeSlice
+            | TimedStage::LargeSurvey
     )
 }
 
@@ -81,16 +81,21 @@ fn count_finished<R: Read + Drop>(alloc: Global, reader: R) -> Option<u32> {
 }
 
 /// Goes as far as asked beyond the graph, and returns how many transactions there are, or how many were ordered.
-fn search(rt: &(impl Threads + Sync), alloc: Global, graph: &Graph, stage: Stage) -> Option<u32> {
-    if stage == Stage::Graph {
+fn search(
+    rt: &(impl Threads + Sync),
+    alloc: Global,
+    graph: &Graph,
+    stage: TimedStage,
+) -> Option<u32> {
+    if stage == TimedStage::Graph {
         return Some(graph.count());
     }
-    if stage == Stage::Order {
+    if stage == TimedStage::Order {
         let ordered = order(alloc, graph, Level::Causal).ok()?;
         return u32::try_from(ordered.map_or(0, |numbers| numbers.len())).ok();
     }
     let near = near(rt, alloc, graph, Level::Causal).ok()?;
-    if stage == Stage::Near {
+    if stage == TimedStage::Near {
         return Some(graph.count());
     }
     let prices = derive(rt, alloc, graph, &near).ok()?;
@@ -102,20 +107,20 @@ fn run<R: Read + Drop>(
     rt: &(impl Threads + Sync),
     alloc: Global,
     reader: R,
-    stage: Stage,
+    stage: TimedStage,
 ) -> Option<u32> {
-    if stage == Stage::Csv {
+    if stage == TimedStage::Csv {
         return u32::try_from(count_records(alloc, reader).ok()?).ok();
     }
-    if stage == Stage::Rows {
+    if stage == TimedStage::Rows {
         return count_finished(alloc, reader);
     }
     let snapshot = snapshot_of(alloc, reader).ok()?;
-    if stage == Stage::Snapshot {
+    if stage == TimedStage::Snapshot {
         return Some(snapshot.sessions());
     }
     let resolved = resolve(alloc, &snapshot).ok()?;
-    if stage == Stage::Resolve {
+    if stage == TimedStage::Resolve {
         return u32::try_from(resolved.places().len()).ok();
     }
     let graph = Graph::build(alloc, resolved).ok()?;
@@ -123,34 +128,34 @@ fn run<R: Read + Drop>(
 }
 
 /// The stage that a word asks for.
-fn stage_of(word: &str) -> Option<Stage>
+fn stage_of(word: &str) -> Option<TimedStage>
     ensures asked { IfSome result (λ stage. word_of stage ≡ word.now) }
-    ensures unknown { IfNone result ((stage : Stage) → word_of stage ≢ word.now) }
+    ensures unknown { IfNone result ((stage : TimedStage) → word_of stage ≢ word.now) }
 {
     match word {
-        "csv" => Some(Stage::Csv),
-        "rows" => Some(Stage::Rows),
-        "snapshot" => Some(Stage::Snapshot),
-        "resolve" => Some(Stage::Resolve),
-        "graph" => Some(Stage::Graph),
-        "order" => Some(Stage::Order),
-        "near" => Some(Stage::Near),
-        "derive" => Some(Stage::Derive),
-        "large-snapshot" => Some(Stage::LargeSnapshot),
-        "large-resolve" => Some(Stage::LargeResolve),
-        "large-graph" => Some(Stage::LargeGraph),
-        "large-order" => Some(Stage::LargeOrder),
-        "large-cycle" => Some(Stage::LargeCycle),
-        "large-slice" => Some(Stage::LargeSlice),
-        "large-answer" => Some(Stage::LargeAnswer),
-        "large-survey" => Some(Stage::LargeSurvey),
-        "survey-answer" => Some(Stage::SurveyAnswer),
+        "csv" => Some(TimedStage::Csv),
+        "rows" => Some(TimedStage::Rows),
+        "snapshot" => Some(TimedStage::Snapshot),
+        "resolve" => Some(TimedStage::Resolve),
+        "graph" => Some(TimedStage::Graph),
+        "order" => Some(TimedStage::Order),
+        "near" => Some(TimedStage::Near),
+        "derive" => Some(TimedStage::Derive),
+        "large-snapshot" => Some(TimedStage::LargeSnapshot),
+        "large-resolve" => Some(TimedStage::LargeResolve),
+        "large-graph" => Some(TimedStage::LargeGraph),
+        "large-order" => Some(TimedStage::LargeOrder),
+        "large-cycle" => Some(TimedStage::LargeCycle),
+        "large-slice" => Some(TimedStage::LargeSlice),
+        "large-answer" => Some(TimedStage::LargeAnswer),
+        "large-survey" => Some(TimedStage::LargeSurvey),
+        "survey-answer" => Some(TimedStage::SurveyAnswer),
         _ => None,
     }
 }
 
 /// The stage that the first argument asks for.
-fn asked_stage(rt: &HostRuntime) -> Option<Stage> {
+fn asked_stage(rt: &HostRuntime) -> Option<TimedStage> {
     let word = env::args(rt).ok()?.nth(1)?;
     stage_of(word.as_str())
 }
@@ -175,9 +180,9 @@ fn main(rt: HostRuntime) -> ExitCode {
         return ExitCode::from(64);
     };
     let alloc = rt.alloc();
-    let text = if stage == Stage::LargeAnswer {
+    let text = if stage == TimedStage::LargeAnswer {
         large_answer(alloc, rt.stdin(), level)
-    } else if stage == Stage::SurveyAnswer {
+    } else if stage == TimedStage::SurveyAnswer {
         survey_answer(alloc, rt.stdin(), level)
     } else if is_large(stage) {
         text_of(alloc, run_large(alloc, rt.stdin(), level, stage))

@@ -1,5 +1,8 @@
 //! Rows of marks, 64 in a word; rows of values, which contracts see as lists; and rows of numbers or none. These take 16 bits
 //! each if all fit.
+//!
+//! Needs: nothing but names of limits (`tcc_txn`).
+//! Must hold: a packed row is seen as the list of its values, whatever its width.
 #![tactic(auto)]
 
 mod bits;

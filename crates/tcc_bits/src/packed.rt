@@ -11,7 +11,7 @@ pub const NO_VALUE: u16 = u16::MAX;
 
 /// The values of a row.
 #[derive(Drop)]
-enum Values {
+enum PackedValues {
     /// `NO_VALUE` represents none.
     Narrow(Vec<u16>),
     Wide(Vec<Option<u32>>),
@@ -20,7 +20,7 @@ enum Values {
 /// Values in order. If there is a cap, it replaces none and each greater value.
 #[derive(Drop)]
 pub struct PackedRow {
-    values: Values,
+    values: PackedValues,
     cap: Option<u32>,
 }
 
@@ -70,13 +70,13 @@ fn narrowed(alloc: Global, values: &[Option<u32>]) -> Result<Option<Vec<u16>>, A
 }
 
 /// The value at an index, before it is capped.
-fn value_at(values: &Values, index: usize) -> Option<u32>
+fn value_at(values: &PackedValues, index: usize) -> Option<u32>
     requires { index < length (values_in values.now) }
     ensures { result ≡ slice_index_or (values_in values.now) index None }
 {
     match values {
-        Values::Narrow(narrow) => value_in(narrow[index]),
-        Values::Wide(wide) => wide[index],
+        PackedValues::Narrow(narrow) => value_in(narrow[index]),
+        PackedValues::Wide(wide) => wide[index],
     }
 }
 
@@ -96,7 +96,7 @@ impl PackedRow {
         ensures { result ≡ map value_in values.items }
     {
         PackedRow {
-            values: Values::Narrow(values),
+            values: PackedValues::Narrow(values),
             cap: None,
         }
     }
@@ -106,8 +106,8 @@ impl PackedRow {
         ensures { IfOk result (λ row. row ≡ values.now) }
     {
         let values = match narrowed(alloc, values)? {
-            Some(narrow) => Values::Narrow(narrow),
-            None => Values::Wide(Vec::from_slice(alloc, values)?),
+            Some(narrow) => PackedValues::Narrow(narrow),
+            None => PackedValues::Wide(Vec::from_slice(alloc, values)?),
         };
         Ok(PackedRow { values, cap: None })
     }
@@ -132,8 +132,8 @@ impl PackedRow {
         ensures { result ≡ length self.now }
     {
         match &self.values {
-            Values::Narrow(narrow) => narrow.len(),
-            Values::Wide(wide) => wide.len(),
+            PackedValues::Narrow(narrow) => narrow.len(),
+            PackedValues::Wide(wide) => wide.len(),
         }
     }
 

@@ -1,4 +1,8 @@
 //! The recorders' book: what sessions in threads of their own record, under one lock.
+//!
+//! Needs: snapshots (`tcc_txn`) and a lock that may wait.
+//! Must hold: what the book holds is at each moment what the sessions' passes left in it.
+//! Kept for callers: `nested`.
 #![tactic(auto)]
 
 mod agreement;

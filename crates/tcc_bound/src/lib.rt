@@ -2,6 +2,9 @@
 //!
 //! Each thread works with a seat of its own, through a `&Bound`. `look` reads the word, `offer` lowers it to a cost, and
 //! both return the word as it then is. No call waits for another thread.
+//!
+//! Needs: a word that threads share, from the kit.
+//! Must hold: the bound never rises, and is a cost that somebody offered.
 #![tactic(auto)]
 
 mod bound;

@@ -16,8 +16,8 @@ use Rattle.tcc_cert.specs.declared.part.Part.{Part}
 use Rattle.tcc_cert.specs.declared.part.Part.TheVariants as part
 use Rattle.tcc_cert.specs.declared.reading.input.Input.{Input}
 use Rattle.tcc_cert.specs.declared.reading.parts.CertReader.{CertReader}
-use Rattle.tcc_cert.specs.declared.reading.stages.Stage.{Stage}
-use Rattle.tcc_cert.specs.declared.reading.stages.Stage.TheVariants as stage
+use Rattle.tcc_cert.specs.declared.reading.stages.ReadingStage.{ReadingStage}
+use Rattle.tcc_cert.specs.declared.reading.stages.ReadingStage.TheVariants as stage
 use Rattle.tcc_cert.specs.declared.reading.Tables.{Tables}
 use Rattle.tcc_cert.specs.Ahead.{IsAhead, ended_in, fault_in, fault_met, has_ended, is_end, line_wanted, IsAheadIn}
 use Rattle.tcc_cert.specs.private.Collecting.{EndsIn, HasRow, HasRowsOf, clock_in, far_row_in, link_in, near_row_in}
@@ -97,7 +97,7 @@ faults-end ahead now wanted fault line same counted (inl is) = inl (sym same ∙
 faults-end {F} ahead now wanted fault line same counted (inr cut) =
     inr (record { failure = told F fault.kind cut.failure; counted = omega (arith, counted, cut.first); last = omega (arith, cut.last, line) })
 
-within-in : {R : Type 0} (remaining : R → Option (List ℕ)) (input : Input R) (at : Stage) (ahead : Parts) → IsAheadIn remaining input at ahead
+within-in : {R : Type 0} (remaining : R → Option (List ℕ)) (input : Input R) (at : ReadingStage) (ahead : Parts) → IsAheadIn remaining input at ahead
     → ended_in at ≡ false → fault_in at ≡ None → input.number ≤ ahead.line
 within-in remaining input (stage.Going s) ahead is going well = omega (arith, is.1.number, onward-coming s is.0 ahead is.2)
 within-in remaining input stage.Ended ahead is going well = absurd cc

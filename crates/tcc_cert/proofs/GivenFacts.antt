@@ -5,8 +5,8 @@ use Rattle.std.specs.Io.KnownBytes.{Appends}
 use Rattle.tcc_cert.specs.declared.cycle_writer.CycleWriter.{CycleWriter}
 use Rattle.tcc_cert.specs.declared.cycle_writer.CycleTable.{CycleTable}
 use Rattle.tcc_cert.specs.declared.cycle_writer.CycleTable.TheVariants as table
-use Rattle.tcc_cert.specs.declared.cycle_writer.Stage.{Stage}
-use Rattle.tcc_cert.specs.declared.cycle_writer.Stage.TheVariants.{Near, Far, Failed}
+use Rattle.tcc_cert.specs.declared.cycle_writer.TableStage.{TableStage}
+use Rattle.tcc_cert.specs.declared.cycle_writer.TableStage.TheVariants.{Near, Far, Failed}
 use Rattle.tcc_cert.specs.declared.certificate.CycleClaim.{CycleClaim}
 use Rattle.tcc_cert.specs.Texts.{line_text, lines_text, numbers_words}
 use Rattle.tcc_cert.specs.Begun.{MayTake, given_lines, stage_of, with_rows}
@@ -24,7 +24,7 @@ noted (Err y) (Ok x) a b f g t ok err sent = absurd cc
 noted (Err y) (Err e) a b f g t ok err sent = sent
 
 -- no stage of a writer that was given rows is that of a failure
-abbrev working : Stage → Type 0
+abbrev working : TableStage → Type 0
 working Near = Unit {0}
 working Far = Unit {0}
 working Failed = ⊥
@@ -34,7 +34,7 @@ not_failed [] is = subst working is tt
 not_failed (x ∷ xs) is = subst working is tt
 
 -- the text with one more row, and the stage after it
-more_text : (t : CycleTable) (count : ℕ) (row : List ℕ) (k : CycleClaim) (stage : Stage) → stage ≡ stage_of k.far → MayTake t k
+more_text : (t : CycleTable) (count : ℕ) (row : List ℕ) (k : CycleClaim) (stage : TableStage) → stage ≡ stage_of k.far → MayTake t k
     → lines_text (given_lines count k) ++ (mark_before t stage ++ line_text (numbers_words row)) ≡ lines_text (given_lines count (with_rows t k (row ∷ [])))
 more_text table.Near count row k stage is none = sym (one_near count k row none)
 more_text table.Far count row k stage is none =
@@ -44,7 +44,7 @@ stage_more : (far : List (List ℕ)) (row : List ℕ) → stage_of (far ++ row �
 stage_more [] row = refl
 stage_more (x ∷ xs) row = refl
 
-more_stage : (t : CycleTable) (row : List ℕ) (k : CycleClaim) (stage : Stage) → stage ≡ stage_of k.far
+more_stage : (t : CycleTable) (row : List ℕ) (k : CycleClaim) (stage : TableStage) → stage ≡ stage_of k.far
     → stage_behind t stage ≡ stage_of (with_rows t k (row ∷ [])).far
 more_stage table.Near row k stage is = is
 more_stage table.Far row k stage is = sym (stage_more k.far row)

@@ -1,5 +1,5 @@
 -- A certificate of version 3 that was read has a text, and was read from that text alone.
-use Rattle.std.proofs.Common.{◌≡◌, ◌⊎◌, ℕ, ◌^◌, ◌<◌, ◌≤◌, true, false, cond, eqb, List, [], ◌∷◌, ◌++◌, length, Option, Some}
+use Rattle.std.proofs.Common.{◌≡◌, ◌⊎◌, ℕ, ◌≤◌, true, false, cond, List, [], ◌∷◌, ◌++◌, length, Option, Some}
 use Rattle.std.proofs.Common.{flat_map, map, Result, Ok, Err, inl, inr, refl, sym, ap, subst, ◌∙◌, arith, append_assoc, append-nil}
 use Rattle.std.proofs.Common.{codes, decimal, lit≤}
 use Rattle.std.proofs.lemmas.Grind.{flat_map-append}
@@ -8,7 +8,7 @@ use Rattle.tcc_txn.specs.Bytes.{same}
 use Rattle.tcc_graph.specs.declared.level.Level.{Level}
 use Rattle.tcc_graph.specs.declared.level.Level.TheVariants.{Causal, Atomic}
 use Rattle.tcc_cert.specs.declared.fault.CertFaultKind.{CertFaultKind}
-use Rattle.tcc_cert.specs.declared.fault.CertFaultKind.TheVariants.{Header, Trailing}
+use Rattle.tcc_cert.specs.declared.fault.CertFaultKind.TheVariants.{Header}
 use Rattle.tcc_cert.specs.declared.large.LargeCertificate.{LargeCertificate}
 use Rattle.tcc_cert.specs.declared.large.LinksClaim.{LinksClaim}
 use Rattle.tcc_cert.specs.declared.large.Run.{Run}
@@ -25,8 +25,8 @@ use Rattle.tcc_cert.specs.Texts.{Words, line_text, lines_text, link_lines, HasLi
 use Rattle.tcc_cert.specs.LargeTexts.{HasLargeText, HasLeastText, HasLinksClaimText, HasRunText, HasRunsClaimText, HaveRunsText}
 use Rattle.tcc_cert.specs.LargeTexts.{large_certificate_text, large_claim_lines, large_header_of, large_header_words, least_lines}
 use Rattle.tcc_cert.specs.LargeTexts.{links_claim_lines, run_words, runs_claim_lines, runs_lines}
-use Rattle.tcc_cert.specs.Reading.{count_of, link_at, next, number_of, Position, repeated, start_of, three_words, word_line, words}
-use Rattle.tcc_cert.specs.LargeReading.{large_behind_header, large_certificate_at, large_certificate_read, large_claim_at}
+use Rattle.tcc_cert.specs.Reading.{count_of, link_at, number_of, Position, repeated, start_of, three_words, word_line, words}
+use Rattle.tcc_cert.specs.LargeReading.{large_behind_header, large_certificate_read, large_claim_at}
 use Rattle.tcc_cert.specs.LargeReading.{large_header_line, large_order_sizes, large_sizes_line, least_at, least_of, links_claim_at, no_words}
 use Rattle.tcc_cert.specs.LargeReading.{one_word, run_line, run_of, runs_at, runs_claim_at, runs_of, tail_line}
 use Rattle.tcc_cert.proofs.Items.{flat_map-map, flat_map-flat_map}

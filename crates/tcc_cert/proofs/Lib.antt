@@ -35,4 +35,3 @@ mod OneDigit
 mod OneSizes
 mod VersionFacts
 mod RunFacts
-mod SlackFacts

@@ -1,5 +1,5 @@
 -- A certificate that was read has a text, and was read from that text alone.
-use Rattle.std.proofs.Common.{◌≡◌, ◌⊎◌, ℕ, ◌^◌, ◌-◌, ◌<◌, ◌≤◌, true, false, cond, eqb, List, [], ◌∷◌, ◌++◌, length}
+use Rattle.std.proofs.Common.{◌≡◌, ◌⊎◌, ℕ, ◌^◌, ◌-◌, ◌<◌, ◌≤◌, true, false, cond, List, [], ◌∷◌, ◌++◌, length}
 use Rattle.std.proofs.Common.{flat_map, All, Result, Ok, Err, inl, inr, refl, sym, ap, subst, ◌∙◌, arith, append_assoc}
 use Rattle.std.proofs.Common.{codes, decimal}
 use Rattle.tcc_graph.specs.declared.level.Level.{Level}
@@ -10,7 +10,6 @@ use Rattle.tcc_cert.specs.declared.version.Version.TheVariants.{One, Two}
 use Rattle.tcc_cert.specs.declared.ranges.TheConstants.{MAX_HEADER_BYTES}
 use Rattle.tcc_cert.specs.Ranges.{ranges_of}
 use Rattle.std.specs.List.{AllByRecursion}
-use Rattle.std.proofs.lemmas.Bool.Decides.{nat_tests}
 use Rattle.std.proofs.lemmas.List.Elements.{All-from_recursion}
 use Rattle.tcc_txn.specs.Bytes.{same}
 use Rattle.tcc_graph.specs.declared.link.Link.{Link}
@@ -19,7 +18,7 @@ use Rattle.tcc_cert.specs.declared.certificate.Certificate.TheVariants as claim
 use Rattle.tcc_cert.specs.declared.certificate.CycleClaim.{CycleClaim}
 use Rattle.tcc_cert.specs.declared.certificate.OrderClaim.{OrderClaim}
 use Rattle.tcc_cert.specs.declared.fault.CertFaultKind.{CertFaultKind}
-use Rattle.tcc_cert.specs.declared.fault.CertFaultKind.TheVariants.{Header, Trailing}
+use Rattle.tcc_cert.specs.declared.fault.CertFaultKind.TheVariants.{Header}
 use Rattle.tcc_cert.specs.declared.reading.forms.OrderSizes.{OrderSizes}
 use Rattle.tcc_cert.specs.declared.reading.forms.Sizes.{Sizes}
 use Rattle.tcc_cert.specs.declared.reading.forms.Sizes.TheVariants.{Order, Cycle}
@@ -30,13 +29,13 @@ use Rattle.tcc_cert.specs.Texts.{HasCycleText, HasLinkText, HasOrderText, cycle_
 use Rattle.tcc_cert.specs.Reading.{count_of, number_of, word_line, numbers_line, two_words}
 use Rattle.tcc_cert.specs.Reading.{order_sizes, sizes_line, Position, next, words, repeated}
 use Rattle.tcc_cert.specs.Reading.{header_line, link_at, table_at, clocks_at, order_at, cycle_at, claim_at}
-use Rattle.tcc_cert.specs.Reading.{behind_header, certificate_at, start_of, certificate_read}
+use Rattle.tcc_cert.specs.Reading.{behind_header, start_of, certificate_read}
 use Rattle.tcc_cert.proofs.Items.{flat_map-map, flat_map-flat_map}
 use Rattle.tcc_cert.proofs.RangeFacts.{numbers, sessions_are}
 use Rattle.tcc_cert.proofs.Numbered.{each-one, from-widths, same-each}
 use Rattle.tcc_cert.proofs.ClaimsBack.{order_text, cycle_text}
 use Rattle.tcc_cert.proofs.OneSizes.{IsCycleSizes, IsSizesText, cost-small, sizes-text}
-use Rattle.tcc_cert.proofs.OneText.{then_parts, allowed_parts, same_ok, same_pair, number-text, count, same-bytes, two_parts}
+use Rattle.tcc_cert.proofs.OneText.{then_parts, same_ok, same_pair, number-text, count, same-bytes, two_parts}
 use Rattle.tcc_cert.proofs.OneText.{two_equal, choice, mark, row-text, next-text, words-text, IsReadFrom, numbered-text}
 use Rattle.tcc_cert.proofs.OneText.{repeated-text, link-from, whole-text}
 

@@ -16,7 +16,7 @@ use Rattle.tcc_cert.specs.declared.reading.forms.Sizes.TheVariants.{Order, Cycle
 use Rattle.tcc_cert.specs.declared.reading.input.Input.{Input}
 use Rattle.tcc_cert.specs.declared.reading.shape.TableShape.{TableShape}
 use Rattle.tcc_cert.specs.declared.reading.shape.TableShape.TheVariants as shape
-use Rattle.tcc_cert.specs.declared.reading.stages.Stage.{Stage}
+use Rattle.tcc_cert.specs.declared.reading.stages.ReadingStage.{ReadingStage}
 use Rattle.tcc_cert.specs.declared.reading.stages.ExpectedPart.{ExpectedPart}
 use Rattle.tcc_cert.specs.declared.reading.stages.ExpectedPart.TheVariants as coming
 use Rattle.tcc_cert.specs.Ranges.{ranges_of}
@@ -123,7 +123,7 @@ pub wanted-earlier : {F P : Type 0} (wanted earlier : ℕ) (ahead : PartsOf P) (
 wanted-earlier wanted earlier ahead fault le (inl is) = inl is
 wanted-earlier wanted earlier ahead fault le (inr cut) = inr (record { failure = cut.failure; first = omega (arith, le, cut.first); last = cut.last })
 
-step-earlier : {R : Type 0} (remaining : R → Option (List ℕ)) (wanted earlier : ℕ) (ahead : Parts) (result : Result (Part × Stage) CertFault)
+step-earlier : {R : Type 0} (remaining : R → Option (List ℕ)) (wanted earlier : ℕ) (ahead : Parts) (result : Result (Part × ReadingStage) CertFault)
     (new : Input R) → earlier ≤ wanted
     → TakesStep remaining wanted ahead result new → TakesStep remaining earlier ahead result new
 step-earlier remaining wanted earlier ahead (Ok given) new le taken = taken
@@ -131,7 +131,7 @@ step-earlier remaining wanted earlier ahead (Err fault) new le faults = wanted-e
 
 -- it was read, and what comes after it is given
 pub part-then : {A R : Type 0} (remaining : R → Option (List ℕ)) (at : Position) {after : Position} {x : A} (read : Reads A) (behind : A × Position → Parts)
-    (result : Result (Part × Stage) CertFault) (new : Input R)
+    (result : Result (Part × ReadingStage) CertFault) (new : Input R)
     → read ≡ Ok (x, after) → at.line ≤ after.line → TakesStep remaining after.line (behind (x, after)) result new
     → TakesStep remaining at.line (read >>> behind) result new
 part-then remaining at {after} {x} read behind result new is on taken =
@@ -140,7 +140,7 @@ part-then remaining at {after} {x} read behind result new is on taken =
 
 -- the sizes of a claim were read
 pub sizes-then : {R : Type 0} (remaining : R → Option (List ℕ)) (version : Version) (level : Level) (at : Position) {after : Position} {sizes : Sizes OrderSizes}
-    (result : Result (Part × Stage) CertFault) (new : Input R)
+    (result : Result (Part × ReadingStage) CertFault) (new : Input R)
     → words (Small version) (sizes_line (Small version)) at ≡ Ok (sizes, after) → TakesStep remaining after.line (claim_parts version level sizes after) result new
     → TakesStep remaining at.line (parts_behind ((version, level), at)) result new
 sizes-then remaining version level at result new is taken =
@@ -155,7 +155,7 @@ mark-faults version word behind at fault later faults =
     part-faults (words (Small version) (word_line word) at) (λ mark. behind mark.1) fault (λ mark. later mark.1) faults
 
 pub mark-then : {R : Type 0} (remaining : R → Option (List ℕ)) (version : Version) (word : List ℕ) (behind : Position → Parts)
-    (at : Position) {after : Position} {done : Unit {0}} (result : Result (Part × Stage) CertFault) (new : Input R)
+    (at : Position) {after : Position} {done : Unit {0}} (result : Result (Part × ReadingStage) CertFault) (new : Input R)
     → words (Small version) (word_line word) at ≡ Ok (done, after) → TakesStep remaining after.line (behind after) result new
     → TakesStep remaining at.line (words (Small version) (word_line word) at >>> λ mark. behind mark.1) result new
 mark-then remaining version word behind at result new is taken =

@@ -4,8 +4,8 @@ use Rattle.tcc_cert.specs.declared.fault.CertFault.{CertFault}
 use Rattle.tcc_cert.specs.declared.part.Part.{Part}
 use Rattle.tcc_cert.specs.declared.part.Part.TheVariants as part
 use Rattle.tcc_cert.specs.declared.reading.parts.CertReader.{CertReader}
-use Rattle.tcc_cert.specs.declared.reading.stages.Stage.{Stage}
-use Rattle.tcc_cert.specs.declared.reading.stages.Stage.TheVariants as stage
+use Rattle.tcc_cert.specs.declared.reading.stages.ReadingStage.{ReadingStage}
+use Rattle.tcc_cert.specs.declared.reading.stages.ReadingStage.TheVariants as stage
 use Rattle.tcc_cert.specs.declared.reading.stages.ExpectedPart.TheVariants as coming
 use Rattle.tcc_cert.specs.InputBytes.{HasFailed, IsAt}
 use Rattle.tcc_cert.specs.Parts.{Parts, FaultsIn, IsFirst, stopped, ending, link_rows, whole_parts}
@@ -21,7 +21,7 @@ rows_at (coming.Links left) = links_from left.transactions left.many
 rows_at (coming.Mark version table) = rows_from table (height table)
 rows_at (coming.Rows left) = rows_from left.table left.many
 
-abbrev pub rows_in : Stage → ℕ
+abbrev pub rows_in : ReadingStage → ℕ
 rows_in (stage.Going at) = rows_at at
 rows_in stage.Ended = 0
 rows_in (stage.Stopped fault) = 0
@@ -34,7 +34,7 @@ IsBehind (coming.Mark version table) at ahead = ahead ≡ table_parts version ta
 IsBehind (coming.Rows left) at ahead =
     (from : ℕ) × (from + left.many ≡ height left.table) × (ahead ≡ table_rows left.version left.table from left.many at)
 
-abbrev pub IsAheadIn : {R : Type 0} → (R → Option (List ℕ)) → Input R → Stage → Parts → Type 0
+abbrev pub IsAheadIn : {R : Type 0} → (R → Option (List ℕ)) → Input R → ReadingStage → Parts → Type 0
 IsAheadIn remaining input (stage.Going coming) ahead = (at : Position) × IsAt remaining input at × IsBehind coming at ahead
 IsAheadIn remaining input stage.Ended ahead = ahead ≡ ending ahead.line None
 IsAheadIn remaining input (stage.Stopped fault) ahead = ahead ≡ stopped fault
@@ -56,7 +56,7 @@ abbrev pub rows_left : {R : Type 0} → CertReader R → ℕ
 rows_left reader = rows_in reader.stage
 
 -- nothing was asked for yet
-abbrev pub new_in : Stage → Bool
+abbrev pub new_in : ReadingStage → Bool
 new_in (stage.Going coming.Whole) = true
 new_in _ = false
 
@@ -64,7 +64,7 @@ abbrev pub is_new : {R : Type 0} → CertReader R → Bool
 is_new reader = new_in reader.stage
 
 -- the fault that was met, if there was one
-abbrev pub fault_in : Stage → Option CertFault
+abbrev pub fault_in : ReadingStage → Option CertFault
 fault_in (stage.Going at) = None
 fault_in stage.Ended = None
 fault_in (stage.Stopped fault) = Some fault
@@ -73,7 +73,7 @@ abbrev pub fault_met : {R : Type 0} → CertReader R → Option CertFault
 fault_met reader = fault_in reader.stage
 
 -- the end was met
-abbrev pub ended_in : Stage → Bool
+abbrev pub ended_in : ReadingStage → Bool
 ended_in (stage.Going at) = false
 ended_in stage.Ended = true
 ended_in (stage.Stopped fault) = false

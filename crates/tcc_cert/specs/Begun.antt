@@ -5,8 +5,8 @@ use Rattle.tcc_graph.specs.declared.level.Level.{Level}
 use Rattle.tcc_cert.specs.declared.version.Version.{Version}
 use Rattle.tcc_cert.specs.declared.cycle_writer.CycleTable.{CycleTable}
 use Rattle.tcc_cert.specs.declared.cycle_writer.CycleTable.TheVariants as table
-use Rattle.tcc_cert.specs.declared.cycle_writer.Stage.{Stage}
-use Rattle.tcc_cert.specs.declared.cycle_writer.Stage.TheVariants.{Near, Far}
+use Rattle.tcc_cert.specs.declared.cycle_writer.TableStage.{TableStage}
+use Rattle.tcc_cert.specs.declared.cycle_writer.TableStage.TheVariants.{Near, Far}
 use Rattle.tcc_cert.specs.declared.certificate.CycleClaim.{CycleClaim}
 use Rattle.tcc_cert.specs.Texts.{Words, header_words, link_lines, table_lines}
 
@@ -37,6 +37,6 @@ MayTake table.Near k = k.far ≡ []
 MayTake table.Far k = Unit {0}
 
 -- rows of `far` come after those of `near`
-abbrev pub stage_of : List (List ℕ) → Stage
+abbrev pub stage_of : List (List ℕ) → TableStage
 stage_of [] = Near
 stage_of (row ∷ rows) = Far

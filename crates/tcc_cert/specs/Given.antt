@@ -1,7 +1,7 @@
 -- What a writer of a claim of a cycle was given so far.
 use Rattle.std.specs.Prelude.{ℕ, ◌≡◌, List, [], Option, ◌++◌}
 use Rattle.tcc_cert.specs.declared.cycle_writer.CycleWriter.{CycleWriter}
-use Rattle.tcc_cert.specs.declared.cycle_writer.Stage.TheVariants.{Failed}
+use Rattle.tcc_cert.specs.declared.cycle_writer.TableStage.TheVariants.{Failed}
 use Rattle.tcc_cert.specs.declared.certificate.CycleClaim.{CycleClaim}
 use Rattle.tcc_cert.specs.Texts.{lines_text}
 use Rattle.tcc_cert.specs.Begun.{given_lines, stage_of}

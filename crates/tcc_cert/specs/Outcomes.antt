@@ -1,11 +1,10 @@
 -- The result of reading, where a reader may fail and memory may be refused.
-use Rattle.std.specs.Prelude.{ℕ, ◌≡◌, ◌≤◌, ◌⊎◌, List, length, Result, Ok, Err}
+use Rattle.std.specs.Prelude.{ℕ, ◌≡◌, ◌≤◌, ◌⊎◌, List, Result, Ok, Err}
 use Rattle.tcc_cert.specs.declared.fault.CertFault.{CertFault}
 use Rattle.tcc_cert.specs.declared.fault.CertFaultKind.{CertFaultKind}
 use Rattle.tcc_cert.specs.declared.fault.CertFaultKind.TheVariants.{Read, NoMemory}
 use Rattle.tcc_cert.specs.declared.certificate.Certificate.{Certificate}
 use Rattle.tcc_cert.specs.declared.large.LargeCertificate.{LargeCertificate}
-use Rattle.tcc_cert.specs.declared.version_3.TheConstants.{V3_MAX_TEXT_BYTES}
 use Rattle.tcc_cert.specs.LargeReading.{large_certificate_at, large_certificate_read}
 use Rattle.tcc_cert.specs.Reading.{Position, Reads, certificate_at, certificate_read, start_of}
 
@@ -34,8 +33,8 @@ IsReadingWhere failed bytes (Err fault) =
 abbrev pub IsReading : List ℕ → Result Certificate CertFault → Type 0
 IsReading bytes result = IsReadingWhere (Unit {0}) bytes result
 
--- the same for a text of version 3, which has no more bytes than such a text may have; a longer one counts as one whose reader failed
+-- the same for a text of version 3, of any length
 abbrev pub IsLargeReading : List ℕ → Result LargeCertificate CertFault → Type 0
-IsLargeReading bytes (Ok certificate) = (large_certificate_read bytes ≡ Ok certificate) × (length bytes ≤ V3_MAX_TEXT_BYTES)
+IsLargeReading bytes (Ok certificate) = large_certificate_read bytes ≡ Ok certificate
 IsLargeReading bytes (Err fault) =
     (large_certificate_read bytes ≡ Err fault) ⊎ IsCutShort (Unit {0}) (start_of bytes) (large_certificate_at (start_of bytes)) fault

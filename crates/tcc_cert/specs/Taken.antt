@@ -1,5 +1,5 @@
 -- What is read of a text of version 3 whose links are taken one by one.
-use Rattle.std.specs.Prelude.{ℕ, ◌≡◌, ◌≤◌, List, length, Result, Ok, Err}
+use Rattle.std.specs.Prelude.{ℕ, ◌≡◌, List, Result, Ok, Err}
 use Rattle.tcc_graph.specs.declared.link.Link.{Link}
 use Rattle.tcc_cert.specs.declared.fault.CertFault.{CertFault}
 use Rattle.tcc_cert.specs.declared.large.LargeCertificate.{LargeCertificate}
@@ -9,7 +9,6 @@ use Rattle.tcc_cert.specs.declared.large.LargeHead.TheVariants as head
 use Rattle.tcc_cert.specs.declared.large.LinksClaim.{LinksClaim}
 use Rattle.tcc_cert.specs.declared.large.LinksHead.{LinksHead}
 use Rattle.tcc_cert.specs.declared.large.LinksSizes.{LinksSizes}
-use Rattle.tcc_cert.specs.declared.version_3.TheConstants.{V3_MAX_TEXT_BYTES}
 use Rattle.tcc_cert.specs.LargeReading.{large_certificate_read}
 use Rattle.tcc_cert.specs.Outcomes.{IsLargeReading}
 
@@ -22,10 +21,9 @@ abbrev pub IsClaimTaken : (LinksSizes → List Link → Type 0) → LargeCertifi
 IsClaimTaken took certificate (head.Order k) = certificate ≡ claim.Order k
 IsClaimTaken took certificate (head.Cycle k) = (links : List Link) × took k.sizes links × (certificate ≡ claim.Cycle (with_links k links))
 
--- A claim: the bytes are the text of a certificate that is this claim with links that were taken, and no more than such a text may have. A
--- fault: it is their first, unless the reader failed or memory was refused.
+-- A claim: the bytes are the text of a certificate that is this claim with links that were taken. A fault: it is their first, unless the
+-- reader failed or memory was refused.
 abbrev pub IsLargeTaken : List ℕ → (LinksSizes → List Link → Type 0) → Result LargeHead CertFault → Type 0
 IsLargeTaken bytes took (Ok k) =
     (certificate : LargeCertificate) × (large_certificate_read bytes ≡ Ok certificate) × IsClaimTaken took certificate k
-    × (length bytes ≤ V3_MAX_TEXT_BYTES)
 IsLargeTaken bytes took (Err fault) = IsLargeReading bytes (Err fault)

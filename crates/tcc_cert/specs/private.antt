@@ -5,5 +5,4 @@ pub mod Inputs
 pub mod Stages
 pub mod Collecting
 pub mod Showing
-pub mod Slack
 pub mod Onward

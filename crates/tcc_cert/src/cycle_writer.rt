@@ -24,7 +24,7 @@ pub enum CycleTable {
 
 /// How far the writing has come: which row may come next.
 #[derive(Clone, Copy)]
-enum Stage {
+enum TableStage {
     /// One of `near`, or the first of `far`.
     Near,
     /// One of `far`.
@@ -38,7 +38,7 @@ enum Stage {
 pub struct CycleWriter<'w, W: Write> {
     out: &'w mut W,
     outgoing: Outgoing,
-    stage: Stage,
+    stage: TableStage,
 }
 
 impl<W: Write> Drop for CycleWriter<'_, W> {
@@ -63,18 +63,18 @@ fn last_line<W: Write>(outgoing: &mut Outgoing, out: &mut W) -> io::Result<()>
 }
 
 /// The line before the rows of `far`, if it was not written yet.
-fn far_line<W: Write>(outgoing: &mut Outgoing, out: &mut W, stage: Stage) -> io::Result<()>
+fn far_line<W: Write>(outgoing: &mut Outgoing, out: &mut W, stage: TableStage) -> io::Result<()>
     ensures { IsSent result (W.contents out.old) outgoing.old (W.contents out.new) outgoing.new (far_mark stage) }
 {
     match stage {
-        Stage::Near => line(outgoing, out, b"far", &[]),
-        Stage::Far => Ok(()),
-        Stage::Failed => Ok(()),
+        TableStage::Near => line(outgoing, out, b"far", &[]),
+        TableStage::Far => Ok(()),
+        TableStage::Failed => Ok(()),
     }
 }
 
 /// What comes after the last row.
-fn close<W: Write>(outgoing: &mut Outgoing, out: &mut W, stage: Stage) -> io::Result<()>
+fn close<W: Write>(outgoing: &mut Outgoing, out: &mut W, stage: TableStage) -> io::Result<()>
     ensures sent { IsSent result (W.contents out.old) outgoing.old (W.contents out.new) outgoing.new (far_mark stage ++ line_text (codes "end" ∷ [])) }
     ensures none { OnOk result (outgoing.new ≡ []) }
 {
@@ -114,7 +114,7 @@ impl<'w, W: Write> CycleWriter<'w, W> {
         ensures same_reference { result.out.ghost_name ≡ out.entry.ghost_name }
         ensures same { result.out.now ≡ out.old }
         ensures outgoing { result.outgoing ≡ outgoing }
-        ensures stage { result.stage ≡ Stage.Near }
+        ensures stage { result.stage ≡ TableStage.Near }
         ensures begun { (before : Option (List ℕ)) (count : ℕ) (k : CycleClaim)
             → Sends before [] (W.contents out.old) outgoing (lines_text (begun_lines k.version k.level count k.links k.least))
             → HasTaken W.contents before count (record k { near = []; far = [] }) result }
@@ -122,7 +122,7 @@ impl<'w, W: Write> CycleWriter<'w, W> {
         CycleWriter {
             out,
             outgoing,
-            stage: Stage::Near,
+            stage: TableStage::Near,
         }
     }
 
@@ -151,12 +151,12 @@ impl<'w, W: Write> CycleWriter<'w, W> {
         ensures ok { OnOk result (IsOk sent) }
         ensures goes_on { OnOk result (self.new.stage ≡ self.old.stage) }
         ensures err { OnErr result (IsErr sent) }
-        ensures fails { OnErr result (self.new.stage ≡ Stage.Failed) }
+        ensures fails { OnErr result (self.new.stage ≡ TableStage.Failed) }
     {
         match sent {
             Ok(()) => Ok(()),
             Err(_) => {
-                self.stage = Stage::Failed;
+                self.stage = TableStage::Failed;
                 Err(CertWriteFault::Device)
             }
         }
@@ -165,21 +165,21 @@ impl<'w, W: Write> CycleWriter<'w, W> {
     /// The line before the rows of the table, if it was not written yet; that of `near` is among the first lines.
     fn mark(&mut self, table: CycleTable) -> Result<(), CertWriteFault>
         ensures same_reference { self.new.out.ghost_name ≡ self.old.out.ghost_name }
-        ensures sent { self.old.stage ≢ Stage.Failed
+        ensures sent { self.old.stage ≢ TableStage.Failed
             → IsSent result (W.contents self.old.out.now) self.old.outgoing (W.contents self.new.out.now) self.new.outgoing (mark_before table self.old.stage) }
         ensures stage { OnOk result (self.new.stage ≡ stage_behind table self.old.stage) }
-        ensures fails { OnErr result (self.new.stage ≡ Stage.Failed) }
-        ensures stays_failed { self.old.stage ≡ Stage.Failed → (result ≡ Err Device) × Keeps (W.contents self.old.out.now) (W.contents self.new.out.now) }
+        ensures fails { OnErr result (self.new.stage ≡ TableStage.Failed) }
+        ensures stays_failed { self.old.stage ≡ TableStage.Failed → (result ≡ Err Device) × Keeps (W.contents self.old.out.now) (W.contents self.new.out.now) }
     {
         match (self.stage, table) {
-            (Stage::Failed, _) => Err(CertWriteFault::Device),
-            (Stage::Near, CycleTable::Far) => {
+            (TableStage::Failed, _) => Err(CertWriteFault::Device),
+            (TableStage::Near, CycleTable::Far) => {
                 let sent = line(&mut self.outgoing, self.out, b"far", &[]);
                 self.note(sent)?;
-                self.stage = Stage::Far;
+                self.stage = TableStage::Far;
                 Ok(())
             }
-            (Stage::Near, CycleTable::Near) | (Stage::Far, _) => Ok(()),
+            (TableStage::Near, CycleTable::Near) | (TableStage::Far, _) => Ok(()),
         }
     }
 
@@ -218,7 +218,7 @@ impl<'w, W: Write> CycleWriter<'w, W> {
             mut outgoing,
             stage,
         } = self;
-        if let Stage::Failed = stage {
+        if let TableStage::Failed = stage {
             return Err(CertWriteFault::Device);
         }
         close(&mut outgoing, out, stage)?;

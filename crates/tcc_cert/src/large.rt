@@ -79,7 +79,8 @@ pub enum LargeHead {
     Cycle(LinksHead),
 }
 
-/// A taker of a claim's links: it takes them one by one, as a text gives them, and the walks of these step by step.
+/// A taker of a claim's links: it takes them one by one, as a text gives them, and the walks of these step by step. Whatever a
+/// call returns, the taker stays ready for another claim.
 pub trait TakesLinks {
     ghost use Rattle.std.specs.Prelude.{◌++◌, ◌∷◌, [], List, OnOk};
     ghost use Rattle.tcc_reads.specs.History.{History};
@@ -98,19 +99,23 @@ pub trait TakesLinks {
 
     /// A claim begins.
     fn start(&mut self, sizes: LinksSizes)
-        ensures { (h : History) → ready self.old h → took self.new h sizes [] };
+        ensures start { (h : History) → ready self.old h → took self.new h sizes [] }
+        ensures ready { (h : History) → ready self.old h → ready self.new h };
 
     /// A link begins, whose steps come next where it is derived.
     fn begin(&mut self, head: Link) -> Result<(), NoMemory>
-        ensures { OnOk result ((h : History) (sizes : LinksSizes) (links : List Link) → took self.old h sizes links → takes self.new h sizes links head []) };
+        ensures head { OnOk result ((h : History) (sizes : LinksSizes) (links : List Link) → took self.old h sizes links → takes self.new h sizes links head []) }
+        ensures ready { (h : History) → ready self.old h → ready self.new h };
 
     /// The next step of its walk.
     fn step(&mut self, step: Step) -> Result<(), NoMemory>
-        ensures { OnOk result ((h : History) (sizes : LinksSizes) (links : List Link) (head : Link) (walk : List Step) → takes self.old h sizes links head walk
-            → takes self.new h sizes links head (walk ++ step ∷ [])) };
+        ensures step { OnOk result ((h : History) (sizes : LinksSizes) (links : List Link) (head : Link) (walk : List Step) → takes self.old h sizes links head walk
+            → takes self.new h sizes links head (walk ++ step ∷ [])) }
+        ensures ready { (h : History) → ready self.old h → ready self.new h };
 
     /// The link has all its steps.
     fn end(&mut self) -> Result<(), NoMemory>
-        ensures { OnOk result ((h : History) (sizes : LinksSizes) (links : List Link) (head : Link) (walk : List Step) → takes self.old h sizes links head walk
-            → took self.new h sizes (links ++ with_walk head walk ∷ [])) };
+        ensures link { OnOk result ((h : History) (sizes : LinksSizes) (links : List Link) (head : Link) (walk : List Step) → takes self.old h sizes links head walk
+            → took self.new h sizes (links ++ with_walk head walk ∷ [])) }
+        ensures ready { (h : History) → ready self.old h → ready self.new h };
 }

@@ -1,4 +1,8 @@
 //! Certificates: what an answer claims, with the tables by which the claim can be checked.
+//!
+//! Needs: histories and their links (`tcc_graph`).
+//! Must hold: what is written is read back as the same claim, and every byte of a text counts.
+//! Kept for callers: `read_large`.
 #![tactic(auto)]
 
 mod certificate;

@@ -1,6 +1,6 @@
 //! How a certificate's text is read.
 ghost use Rattle.std.specs.Prelude.{◌≡◌, ◌<◌, ◌++◌, ◌∷◌, ℕ, [], IfErr, IfSome, List, OnOk, false, true};
-ghost use Rattle.tcc_cert.specs.{private.Collecting.Collects, private.Collecting.HasRow, private.Inputs.AsBefore, private.Inputs.Gives, private.Slack.KeepsSlack, InputBytes.IsAt, declared.ranges.TheConstants.MAX_HEADER_BYTES, Outcomes.IsReading, private.Showing.Shows, Parts.Parts, Parts.parts_read};
+ghost use Rattle.tcc_cert.specs.{private.Collecting.Collects, private.Collecting.HasRow, private.Inputs.AsBefore, private.Inputs.Gives, InputBytes.IsAt, declared.ranges.TheConstants.MAX_HEADER_BYTES, Outcomes.IsReading, private.Showing.Shows, Parts.Parts, Parts.parts_read};
 ghost use Rattle.tcc_cert.specs.Ahead.{IsAhead, is_new, line_wanted};
 ghost use Rattle.tcc_cert.specs.Reading.{Position, header_line, next, word_line, words, words_of};
 
@@ -60,7 +60,6 @@ fn mark<R: Read>(
     wanted: &[u8],
 ) -> Result<(), CertFault>
     ensures works { OnOk result (AsBefore input.old input.new) }
-    ensures slack { OnOk result (KeepsSlack R.remaining input.old.source input.new.source) }
     ensures gives { (at : Position) → IsAt R.remaining input.old at → Gives R.remaining at (words scale (word_line wanted.now) at) result input.new }
 {
     let line = input.next_of(scale)?;

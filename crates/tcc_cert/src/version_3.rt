@@ -20,6 +20,3 @@ pub const V3_MAX_COST: u32 = u32::MAX;
 
 /// The most bytes of a line after the first, without its line feed.
 pub const V3_MAX_LINE_BYTES: usize = 127;
-
-/// The most bytes of a text. Where it goes on past them it is given up, as if the reader had failed.
-pub const V3_MAX_TEXT_BYTES: usize = 1_073_741_824;

@@ -14,14 +14,14 @@ use tcc_txn::NoMemory;
 
 /// Where the runs of sessions begin, the reads-from pairs from each transaction, and who reads each key.
 #[derive(Drop)]
-pub(crate) struct Pairs {
+pub(crate) struct PairLists {
     pub(crate) begins: Vec<u32>,
     pub(crate) reads: Vec<Groups>,
     pub(crate) readings: Vec<Option<Groups>>,
 }
 
 /// The adjacency lists of a history, for costs below `least`.
-pub(crate) fn pairs_of(alloc: Global, graph: &LargeGraph, least: u32) -> Result<Pairs, NoMemory>
+pub(crate) fn pairs_of(alloc: Global, graph: &LargeGraph, least: u32) -> Result<PairLists, NoMemory>
     requires { count graph.now ≤ MAX_COUNT }
     ensures { IfOk result (ArePairs graph.now least) }
 {
@@ -30,7 +30,7 @@ pub(crate) fn pairs_of(alloc: Global, graph: &LargeGraph, least: u32) -> Result<
     let begins = run_begins(alloc, graph)?;
     let reads = read_ends(alloc, graph, least)?;
     let readings = readings_of(alloc, graph)?;
-    Ok(Pairs {
+    Ok(PairLists {
         begins,
         reads,
         readings,

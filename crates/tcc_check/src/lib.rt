@@ -1,4 +1,8 @@
 //! The independent checker: judges a certificate from any source by the rules alone.
+//!
+//! Needs: rules (`tcc_rules`) and the text of a certificate (`tcc_cert`).
+//! Must hold: no search, distance or price is used: the rules alone decide.
+//! Kept for callers: `check`, `check_stream`.
 #![tactic(auto)]
 
 mod adjacency;

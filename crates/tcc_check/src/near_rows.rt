@@ -10,7 +10,7 @@ ghost use Rattle.tcc_check.specs.private.Coming.{IsNearFoundTo, IsNearRight, Lea
 ghost use Rattle.tcc_check.specs.private.Judged.{AreNearRowsTo, IsNearJudged, IsOrderly, judged};
 ghost use Rattle.tcc_check.specs.private.Pairs.{AreOrderly, ArePairs};
 
-use crate::adjacency::{Pairs, pairs_of};
+use crate::adjacency::{PairLists, pairs_of};
 use crate::coming::next_part;
 use crate::first_broken::{first_long_step, long_link};
 use crate::groups::Groups;
@@ -51,7 +51,7 @@ pub(crate) struct NearJudged {
 fn with_row(
     graph: &LargeGraph,
     level: Level,
-    pairs: &Pairs,
+    pairs: &PairLists,
     least: u32,
     faults: NearFaults,
     start: u32,
@@ -82,7 +82,7 @@ fn take_row(
     alloc: Global,
     graph: &LargeGraph,
     level: Level,
-    pairs: &Pairs,
+    pairs: &PairLists,
     least: u32,
     start: u32,
     row: &[u32],
@@ -133,7 +133,7 @@ fn near_verdict(faults: NearFaults) -> Verdict
 }
 
 /// What is kept of all rows.
-fn judged(pairs: Pairs, rows: NearRows) -> NearJudged
+fn judged(pairs: PairLists, rows: NearRows) -> NearJudged
     ensures { result ≡ judged pairs rows }
 {
     NearJudged {

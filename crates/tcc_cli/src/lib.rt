@@ -1,5 +1,8 @@
 //! The command lines of `tcc` and of the checker, and the files that they name: what the words ask for, which files are opened and made,
 //! and what is reported where one fails. What `tcc limits` prints is here too.
+//!
+//! Needs: what runs can be asked for (`tcc_print`, `tcc_verdict`).
+//! Must hold: what the words ask for is what a definition says of them; no file that is read is written.
 #![tactic(auto)]
 
 mod checker;

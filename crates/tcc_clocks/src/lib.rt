@@ -2,6 +2,9 @@
 //! reaches the transaction. They are computed along a linear extension of the causal pairs, for a block of 64 sessions at a
 //! time, and equal rows are held once. For N transactions, R reads and S sessions that takes at most 64 (N + R) steps a block.
 //! So it takes S (N + R) in all, and fewer if rows are alike. It takes at most 64 N numbers, however many sessions there are.
+//!
+//! Needs: a graph, and an order of its causal pairs (`tcc_graph`).
+//! Must hold: each row is the clock of its transaction; equal rows are one.
 #![tactic(auto)]
 
 mod latest;

@@ -1,5 +1,8 @@
 //! One search for the least cost of routes to each transaction, and the law by which many searches settle the least cycle. Also
 //! the first of the least cycles, picked from the back by what they found.
+//!
+//! Needs: prices (`tcc_derive`).
+//! Must hold: a search returns the least cost from its start below its bound, and nothing else settles it.
 #![tactic(auto)]
 
 mod again;

@@ -1,4 +1,7 @@
 //! What each pair of transactions costs as a link, and the first of the cheapest reasons.
+//!
+//! Needs: a graph and its walk lengths (`tcc_near`).
+//! Must hold: a price is the least cost of a derived link by any reader; the reason is the first that costs so much.
 #![tactic(auto)]
 
 mod bucket;

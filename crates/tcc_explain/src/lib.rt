@@ -1,4 +1,7 @@
 //! The answer for a snapshot: its first commit order, or the first of its least cycles, with its certificate.
+//!
+//! Needs: orders, searches and tables of a small history (`tcc_order`, `tcc_steal`, `tcc_derive`).
+//! Must hold: the answer is the first one by the rule of ties, and the checker accepts its certificate.
 #![tactic(auto)]
 
 mod explaining;

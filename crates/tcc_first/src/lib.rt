@@ -1,5 +1,8 @@
 //! The first of the least cycles by the rule of ties, in a history of any size: from where the first one starts its links are picked from
 //! the last backwards. Where a least cycle costs at most three steps, as most do, one place shows it, and no search is needed.
+//!
+//! Needs: what a least cycle costs and where it starts (`tcc_lanes`, `tcc_least`).
+//! Must hold: each link picked is the first by the rule of ties.
 #![tactic(auto)]
 
 mod along;

@@ -1,5 +1,8 @@
 //! The two relations of a resolved history, the steps and links of which answers are made, and the labels and recorded
 //! operations of its transactions.
+//!
+//! Needs: a resolved history (`tcc_reads`).
+//! Must hold: what the graph answers of readers, writers and places is what the history says, for the small form and the large one alike.
 #![tactic(auto)]
 
 mod counts;

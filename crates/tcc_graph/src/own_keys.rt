@@ -78,13 +78,13 @@ fn all_marked(marks: &[bool]) -> bool
 
 /// Some names of a list, and for each name of the list how many of them are before it.
 #[derive(Drop)]
-struct Kept {
+struct KeptKeys {
     names: Vec<Name>,
     ranks: Vec<u32>,
 }
 
 /// The marked names.
-fn kept_names(alloc: Global, names: &[Name], marks: &[bool]) -> Result<Kept, NoMemory>
+fn kept_names(alloc: Global, names: &[Name], marks: &[bool]) -> Result<KeptKeys, NoMemory>
     requires long { length marks.now ≡ length names.now }
     requires few { length names.now ≤ u32.MAX }
     ensures names { IfOk result (λ kept. kept.names.items ≡ kept_of names.now marks.now) }
@@ -98,7 +98,7 @@ fn kept_names(alloc: Global, names: &[Name], marks: &[bool]) -> Result<Kept, NoM
             kept.push(*name)?;
         }
     }
-    Ok(Kept { names: kept, ranks })
+    Ok(KeptKeys { names: kept, ranks })
 }
 
 /// The ranks at these indices.

@@ -1,5 +1,9 @@
 //! The judge of claims on a history of any size: an order that runs encode, or a cycle by its links. It uses only the history and the
 //! claim, and nothing about how the claim was found.
+//!
+//! Needs: rules (`tcc_rules`) and searches by lanes (`tcc_lanes`).
+//! Must hold: the verdict rests on the history and the claim alone, not on how the claim was found.
+//! Kept for callers: `judge_taken`.
 #![tactic(auto)]
 
 mod axiom_violation;

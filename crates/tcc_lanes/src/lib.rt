@@ -1,5 +1,8 @@
 //! Multi-source breadth-first search (Then et al., VLDB 2014) along the pairs of a history: 64 lanes at a time, a word of marks for each
 //! transaction. For N transactions and R reads a level takes N + R steps, whatever the lanes.
+//!
+//! Needs: a graph, and clocks along an order (`tcc_graph`, `tcc_clocks`).
+//! Must hold: a lane's marks are what its start reaches in so many steps, and lanes don't see each other.
 #![tactic(auto)]
 
 mod bucket_dijkstra;

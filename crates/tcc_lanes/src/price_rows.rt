@@ -9,7 +9,7 @@ ghost use Rattle.tcc_lanes.specs.private.{Marks.HasLane, Marks.IsAt, Pricing.Are
 use crate::expand::spread;
 use crate::hits::columns_of;
 use crate::marking::{Marking, marks_of};
-use crate::pricing::{NONE, Prices, prices_from};
+use crate::pricing::{LanePrices, NONE, prices_from};
 use crate::stretches::PriceRow;
 use crate::tiles::tile_at;
 use crate::words::{LANES, has_lane};
@@ -45,7 +45,7 @@ fn pairs_from(alloc: Global, graph: &LargeGraph, parent_of: &[u32], starts: &[u3
 }
 
 /// What a link of a lane to a column costs: 1 where the word of pairs has the lane, and else the price of the derived one.
-fn link_price(pairs: u64, prices: &Prices, column: usize, lane: usize) -> u32
+fn link_price(pairs: u64, prices: &LanePrices, column: usize, lane: usize) -> u32
     requires lane { lane < LANES }
     requires column { column < length prices.now.lanes.items }
     requires long { length prices.now.table.items ≡ length prices.now.lanes.items * LANES }
@@ -67,7 +67,7 @@ fn price_row(
     alloc: Global,
     members: &[u32],
     pairs: &[u64],
-    prices: &Prices,
+    prices: &LanePrices,
     lane: usize,
 ) -> Result<PriceRow, NoMemory>
     requires lane { lane < LANES }
@@ -93,7 +93,7 @@ fn push_rows(
     members: &[u32],
     starts: &[u32],
     pairs: &[u64],
-    prices: &Prices,
+    prices: &LanePrices,
 ) -> Result<(), NoMemory>
     requires lanes { length starts.now ≤ LANES }
     requires members { All (λ v. v < length pairs.now) members.now }

@@ -21,7 +21,7 @@ pub(crate) const NONE: u32 = u32::MAX;
 
 /// What derived links from the starts of some lanes to the members cost.
 #[derive(Drop)]
-pub(crate) struct Prices {
+pub(crate) struct LanePrices {
     /// For each column the lanes that have a price there.
     pub(crate) lanes: Vec<u64>,
     /// The price of each lane in each column; `NONE` where it has none.
@@ -89,7 +89,7 @@ pub(crate) fn prices_from(
     members: &[u32],
     starts: &[u32],
     longest: u32,
-) -> Result<Prices, NoMemory>
+) -> Result<LanePrices, NoMemory>
     requires numbered { IsBySession graph.now.entries }
     requires parents { ArePrevious graph.now parent_of.now }
     requires columns { AreColumns graph.now members.now columns.now }
@@ -111,7 +111,7 @@ pub(crate) fn prices_from(
     let mut table = vec![in alloc; NONE; members.len() * LANES]?;
     for steps in 0..longest {
         if !walk_on(graph, level, parent_of, &begun, &mut reached, &mut underway) {
-            return Ok(Prices {
+            return Ok(LanePrices {
                 lanes: found,
                 table,
             });
@@ -119,7 +119,7 @@ pub(crate) fn prices_from(
         meet(graph, columns, &writers, &reached, &mut found);
         lower(&mut table, members, starts, &found, steps + 2);
     }
-    Ok(Prices {
+    Ok(LanePrices {
         lanes: found,
         table,
     })

@@ -10,7 +10,7 @@ ghost use Rattle.tcc_lanes.specs.private.Closings.{AreOffered, IsFromFirst, IsIn
 
 use crate::hits::columns_of;
 use crate::price_rows::longest_walk;
-use crate::pricing::{NONE, Prices, prices_from};
+use crate::pricing::{LanePrices, NONE, prices_from};
 use crate::tiles::tile_at;
 use crate::words::LANES;
 use std::alloc::Global;
@@ -99,7 +99,7 @@ fn offer_table(
     most: u32,
     starts: &[u32],
     members: &[u32],
-    prices: &Prices,
+    prices: &LanePrices,
 )
     requires starts { All (λ b. b < length positions.now) starts.now }
     requires members { All (λ a. a < length positions.now) members.now }

@@ -1,5 +1,9 @@
 //! Whether a cycle costs less than a given cost, found locally, in a history of any size and without a search. Up to three
 //! steps a cycle has few shapes, and each shows at one place.
+//!
+//! Needs: a graph (`tcc_graph`).
+//! Must hold: whether a cycle costs less is answered by the graph alone, exactly.
+//! Kept for callers: `least_short`.
 #![tactic(auto)]
 
 mod building;

@@ -32,7 +32,7 @@ pub(crate) enum Placed {
 /// Transactions that are to be examined, those that are free, and those that wait for one that holds them back. `seen` says
 /// for each after how many of its sources and kept links its examination goes on.
 #[derive(Drop)]
-struct Queue {
+struct ReadyQueue {
     woken: Vec<u32>,
     ready: Ready,
     waiting: Chains<u32>,
@@ -132,7 +132,7 @@ impl Precedence<'_> {
     }
 
     /// Examines each of those that were woken: it is free, or waits from now on for one that holds it back.
-    fn look_at_woken(&self, placed: &[u64], queue: &mut Queue) -> Result<(), NoMemory>
+    fn look_at_woken(&self, placed: &[u64], queue: &mut ReadyQueue) -> Result<(), NoMemory>
         requires known { IsKnown self.now }
         requires seen { length queue.old.seen.items ≡ count self.now.graph.now }
         requires queued { AreQueued (precedes self.now) self.now.parents.now placed.now IsAny (queue.old.woken.items ++ queue.old.ready) queue.old.waiting }
@@ -219,7 +219,7 @@ fn wake(
 }
 
 /// The queue before any transaction was placed.
-fn first_queue(alloc: Global, parents: &[u32], count: u32) -> Result<Queue, NoMemory>
+fn first_queue(alloc: Global, parents: &[u32], count: u32) -> Result<ReadyQueue, NoMemory>
     requires { length parents.now ≤ LARGE_COUNT }
     ensures woken { IfOk result (λ queue. AreRoots parents.now (length parents.now) queue.woken.items) }
     ensures ready { IfOk result (λ queue. (x : ℕ) → Contains queue.ready x → ⊥) }
@@ -230,7 +230,7 @@ fn first_queue(alloc: Global, parents: &[u32], count: u32) -> Result<Queue, NoMe
     let woken = roots(alloc, parents)?;
     let waiting = Chains::new(alloc, count)?;
     let seen = vec![in alloc; 0; count as usize]?;
-    Ok(Queue {
+    Ok(ReadyQueue {
         woken,
         ready: Ready::new(alloc),
         waiting,

@@ -31,7 +31,7 @@ const SLOTS: usize = 131_072;
 
 /// A block of sessions, as the search sees it.
 #[derive(Clone, Copy)]
-struct Block<'a> {
+struct NewsBlock<'a> {
     graph: &'a LargeGraph,
     /// The session of each transaction.
     owners: &'a [u32],
@@ -58,7 +58,7 @@ fn raise_own(row: &mut [u32], owners: &[u32], from: u32, a: u32)
 
 /// For each session of the block the greatest number that reaches `a`, or `a` itself in its own session. Each is at least the
 /// floor, which is less than all numbers of the block.
-fn known_by(block: &Block<'_>, table: &SharedRows, a: u32) -> Clock
+fn known_by(block: &NewsBlock<'_>, table: &SharedRows, a: u32) -> Clock
     requires inside { a < length block.now.owners.now }
     requires long { length table.now ≡ length block.now.owners.now }
     requires wide { length (row_of table.now a) ≡ WIDE }
@@ -116,7 +116,7 @@ fn is_held(owners: &[u32], from: u32, clock: &[u32], z: u32) -> bool
 }
 
 /// Whether `z` is at most the floor, so no transaction of the block, or is `a`, or is held by the clock.
-fn is_known(block: &Block<'_>, clock: &[u32], a: u32, z: u32) -> bool
+fn is_known(block: &NewsBlock<'_>, clock: &[u32], a: u32, z: u32) -> bool
     ensures { result ≡ true → IsKnown block.now.owners.now block.now.from block.now.floor clock.now a z }
 {
     if z <= block.floor || z == a {
@@ -129,7 +129,7 @@ fn is_known(block: &Block<'_>, clock: &[u32], a: u32, z: u32) -> bool
 fn may_tell(
     last: &[Clock],
     heads: &[u32],
-    block: &Block<'_>,
+    block: &NewsBlock<'_>,
     table: &SharedRows,
     c: u32,
     key_index: u32,
@@ -185,7 +185,7 @@ fn add_readings(
     rows: &mut Readings,
     last: &[Clock],
     heads: &[u32],
-    block: &Block<'_>,
+    block: &NewsBlock<'_>,
     table: &SharedRows,
     found: &[u32],
     c: u32,
@@ -221,7 +221,7 @@ fn add_readings(
 }
 
 /// The head of a row after a transaction was noted there: this transaction, if all that were noted reach it, or else none.
-fn head_after(row: &[u32], head: u32, block: &Block<'_>, table: &SharedRows, c: u32) -> u32
+fn head_after(row: &[u32], head: u32, block: &NewsBlock<'_>, table: &SharedRows, c: u32) -> u32
     requires block { IsBlock block.now }
     requires table { length table.now ≡ count block.now.graph.now }
     requires clock { HasClock block.now.graph.now block.now.from table.now c }
@@ -249,7 +249,7 @@ fn raise_keys(
     heads: &mut [u32],
     key_indices: &[u32],
     session: usize,
-    block: &Block<'_>,
+    block: &NewsBlock<'_>,
     table: &SharedRows,
     c: u32,
 )
@@ -276,7 +276,13 @@ fn raise_keys(
 }
 
 /// Notes a transaction as the last writer of its keys, if its session is in the block.
-fn note_writer(last: &mut [Clock], heads: &mut [u32], block: &Block<'_>, table: &SharedRows, c: u32)
+fn note_writer(
+    last: &mut [Clock],
+    heads: &mut [u32],
+    block: &NewsBlock<'_>,
+    table: &SharedRows,
+    c: u32,
+)
     requires block { IsBlock block.now }
     requires table { length table.now ≡ count block.now.graph.now }
     requires clock { HasClock block.now.graph.now block.now.from table.now c }
@@ -307,7 +313,7 @@ fn add_along(
     rows: &mut Readings,
     last: &mut [Clock],
     heads: &mut [u32],
-    block: &Block<'_>,
+    block: &NewsBlock<'_>,
     table: &mut SharedRows,
     order: &[u32],
     start: usize,
@@ -374,7 +380,7 @@ pub(crate) fn find_news(
     let start = block_start(order, owners, from);
     zeros_before(table, order, start)?;
     let mut found = Readings::new(alloc, graph.count())?;
-    let block = Block {
+    let block = NewsBlock {
         graph,
         owners,
         from,

@@ -95,15 +95,15 @@ abbrev name_form : List ℕ
 name_form = codes "a name, which is 1 to 32 of A-Z, a-z, 0-9, '_', '.' and '-'"
 
 abbrev record_form : List ℕ
-record_form = codes "SESSION,begin or SESSION,r,KEY,VALUE or SESSION,w,KEY,VALUE or SESSION,commit or SESSION,abort or seal"
+record_form = codes "SESSION,begin or SESSION,r,KEY,VALUE or SESSION,w,KEY,VALUE or SESSION,commit or SESSION,abort or SESSION,unknown or seal"
 
 -- what is expected in place of an unknown word, by the number of fields of its record
 abbrev pub word_stands : ℕ → List ℕ
 word_stands fields =
     if nat_eq fields 1 then record_form
-    else (if nat_eq fields 2 then codes "begin, commit or abort, or r or w with KEY and VALUE"
-    else (if nat_eq fields 4 then codes "r or w, or begin, commit or abort without KEY and VALUE"
-    else codes "begin, r, w, commit, abort or seal"))
+    else (if nat_eq fields 2 then codes "begin, commit, abort or unknown, or r or w with KEY and VALUE"
+    else (if nat_eq fields 4 then codes "r or w, or begin, commit, abort or unknown without KEY and VALUE"
+    else codes "begin, r, w, commit, abort, unknown or seal"))
 
 -- one text within the small limits, and another within the large ones
 abbrev pub wider : Limits → List ℕ → List ℕ → List ℕ
@@ -136,13 +136,13 @@ expected_text limits row_kind.BadValue fields = stands_text (codes "a whole numb
 expected_text limits row_kind.WriteOfZero fields = stands_text (codes "a value other than the initial 0")
 expected_text limits row_kind.SessionEnded fields = stands_text (codes "another session, since this one ended by a transaction of unknown outcome")
 expected_text limits row_kind.NotBegun fields = stands_text (codes "begin first, since no transaction of the session is begun")
-expected_text limits row_kind.AlreadyBegun fields = stands_text (codes "commit or abort first, since a transaction of the session is begun")
+expected_text limits row_kind.AlreadyBegun fields = stands_text (codes "commit, abort or unknown first, since a transaction of the session is begun")
 expected_text limits row_kind.TooManyOps fields = limit_text limits row_kind.TooManyOps
 expected_text limits row_kind.TooManySessions fields = limit_text limits row_kind.TooManySessions
 expected_text limits row_kind.TooManyTransactions fields = limit_text limits row_kind.TooManyTransactions
 expected_text limits row_kind.TooManyKeys fields = limit_text limits row_kind.TooManyKeys
 expected_text limits row_kind.TooManySeals fields = limit_text limits row_kind.TooManySeals
-expected_text limits (row_kind.Unfinished session) fields = codes "the input ends: expected commit or abort of the session"
+expected_text limits (row_kind.Unfinished session) fields = codes "the input ends: expected commit, abort or unknown of the session"
 expected_text limits row_kind.Read fields = limit_text limits row_kind.Read
 expected_text limits row_kind.NoMemory fields = codes "out of memory"
 

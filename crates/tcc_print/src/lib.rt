@@ -1,4 +1,7 @@
 //! What `tcc` prints: the texts and the JSON of faults, verdicts and answers, how they are written, and the statuses of runs.
+//!
+//! Needs: answers, verdicts and faults (`tcc_answer`, `tcc_rules`, `tcc_rows`, `tcc_reads`).
+//! Must hold: what is printed is the text that a definition gives, or a part of it where the writer fails.
 #![tactic(auto)]
 
 pub mod json;

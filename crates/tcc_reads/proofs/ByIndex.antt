@@ -61,7 +61,7 @@ module _ (keys : List (List ℕ)) where
   BelowRead read = read.0 < length keys
 
   module _ (sorted : IsStrictlySortedBy name_cmp keys) where
-    names_alike : (i j : ℕ) → Below i → Below j → name_cmp (name_at keys i) (name_at keys j) ≡ nat_cmp i j
+    pub names_alike : (i j : ℕ) → Below i → Below j → name_cmp (name_at keys i) (name_at keys j) ≡ nat_cmp i j
     names_alike i j h k = elim (cases_order i j) [
       | inl e ↦ subst (λ m. name_cmp (name_at keys i) (name_at keys m) ≡ nat_cmp i m) e
           (tied_itself nat_list_cmp_total (name_at keys i) ∙ nat_cmp_is i i Equal refl)

@@ -58,6 +58,16 @@ number_of keys (m ∷ ns) (o ∷ ops) are zero d op inside is =
 number_of keys (m ∷ ns) (o ∷ ops) are (suc i) d op inside is =
     number_of keys ns ops (behind_first keys m ns (op_key o) (map op_key ops) are) i d op (omega (arith, inside)) is
 
+-- the numbers of the keys of the first operations
+pub first_numbers : (keys : Names) (ns : List ℕ) (ops : List Op) (n : ℕ) → n < length ops → AreNumbers keys ns (map op_key ops)
+    → AreNumbers keys (take n ns) (map op_key (take n ops))
+first_numbers keys ns [] n inside are = absurd (omega (arith, inside))
+first_numbers keys ns (o ∷ ops) zero inside are = none_numbered keys
+first_numbers keys [] (o ∷ ops) (suc n) inside are = absurd (omega (arith, as_many keys [] (map op_key (o ∷ ops)) are))
+first_numbers keys (m ∷ ns) (o ∷ ops) (suc n) inside are =
+    one_more keys m (take n ns) (op_key o) (map op_key (take n ops)) (first_number keys m ns (op_key o) (map op_key ops) are)
+    (first_numbers keys ns ops n (omega (arith, inside)) (behind_first keys m ns (op_key o) (map op_key ops) are))
+
 -- the numbers of the first keys, and of those after them
 pub parted : (keys : Names) (ns : List ℕ) (xs ys : Names) → AreNumbers keys ns (xs ++ ys)
     → AreNumbers keys (take (length xs) ns) xs × AreNumbers keys (drop (length xs) ns) ys

@@ -5,6 +5,7 @@ pub mod ByIndex
 pub mod KeyNumbers
 pub mod Steps
 pub mod Tables
+pub mod OwnWrites
 pub mod Listed
 pub mod Groups
 pub mod Counting

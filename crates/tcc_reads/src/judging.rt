@@ -1,10 +1,11 @@
 //! What each operation of a transaction is: a fault, an external read with its source, or neither.
 ghost use Rattle.std.specs.Prelude.{All, ◌≡◌, ◌<◌, ◌≤◌, length, true, [], ◌++◌, map, IfOk, OnOk, option_to_list, if◌then◌else◌, None};
 ghost use Rattle.std.specs.Option.{option_copied};
-ghost use Rattle.tcc_txn.specs.{KeyNumbers.AreNumbers, Symbols.IsNumber, declared.limits.TheConstants.MAX_OPERATIONS, Transactions.op_key, Transactions.op_value};
+ghost use Rattle.tcc_txn.specs.{KeyNumbers.AreNumbers, KeyNumbers.name_at, Symbols.IsNumber, declared.limits.TheConstants.MAX_OPERATIONS, Transactions.op_key, Transactions.op_value};
 ghost use Rattle.tcc_reads.specs.{Indexed.named, Sources.visible_write, private.Tracings.is_outside, private.Tracings.sources_traced};
 ghost use Rattle.tcc_reads.specs.private.Verdicts.{writers_in, is_in, write_judgement, read_judgement, op_judgement, fault_in, read_in, IsOwn, AreOwnIn, faults_found, sources_found};
 
+use crate::keys::Keys;
 use crate::located::LocatedTxn;
 use crate::writers::{Writer, Writers, first_writer};
 use crate::{ReadFault, ReadFaultKind};
@@ -66,27 +67,27 @@ fn read_judgement(located: &LocatedTxn<'_>, writer: Option<&Writer>) -> OpJudgem
     }
 }
 
-/// The value of the latest write of a key among these operations, if there is one. It searches from the last operation back.
-fn latest_write(ops: &[Op], key: &Name) -> Option<u64>
-    ensures { result ≡ visible_write key.now ops.now }
+/// The value of the latest write of a key among these operations, if there is one, by the index of the key and those of their
+/// keys. It searches from the last operation back.
+fn latest_write(keys: &Keys, ops: &[Op], indices: &[u32], index: u32) -> Option<u64>
+    requires indices { AreNumbers keys.now indices.now (map op_key ops.now) }
+    requires index { index < length keys.now }
+    ensures { result ≡ visible_write (name_at keys.now index) ops.now }
 {
+    keys.are_sorted();
     for left in 0..ops.len() {
-        let op = ops[ops.len() - 1 - left];
-        if let Op::Put {
-            key: written,
-            value,
-        } = op
-        {
-            if written == *key {
-                return Some(value);
+        let at = ops.len() - 1 - left;
+        if indices[at] == index {
+            if let Op::Put { value, .. } = &ops[at] {
+                return Some(*value);
             }
         }
     }
     None
 }
 
-/// Judges an operation at a position of its transaction, counted from 1, after these, by the index of its key. If no value was
-/// written twice, writes need no look-up.
+/// Judges an operation at a position of its transaction, counted from 1, after these, by the index of its key and those of
+/// theirs. If no value was written twice, writes need no look-up.
 fn judgement_of(
     writers: &Writers,
     distinct: bool,
@@ -95,9 +96,11 @@ fn judgement_of(
     op: Op,
     index: u32,
     before: &[Op],
+    earlier: &[u32],
 ) -> OpJudgement
     requires own { distinct ≡ true → IsOwn (writers_in writers.now) located.now position op }
     requires index { IsNumber writers.now.keys (op_key op) index }
+    requires earlier { AreNumbers writers.now.keys earlier.now (map op_key before.now) }
     ensures { result ≡ op_judgement (writers_in writers.now) located.now position op (visible_write (op_key op) before.now) }
 {
     match op {
@@ -108,11 +111,11 @@ fn judgement_of(
                 write_judgement(located, position, first_writer(writers, index, value))
             }
         }
-        Op::Get { key, value } => {
+        Op::Get { value, .. } => {
             if !located.txn.committed() {
                 return OpJudgement::Silent;
             }
-            match latest_write(before, &key) {
+            match latest_write(writers.keys(), before, earlier, index) {
                 Some(written) => {
                     if written == value {
                         OpJudgement::Silent
@@ -208,8 +211,10 @@ pub(crate) fn judge(
     for (before, op) in ops.iter().enumerate() {
         let position = before as u16 + 1;
         let index = indices[before];
-        let earlier = &ops[..before];
-        let judgement = judgement_of(writers, distinct, located, position, *op, index, earlier);
+        let (done, earlier) = (&ops[..before], &indices[..before]);
+        let judgement = judgement_of(
+            writers, distinct, located, position, *op, index, done, earlier,
+        );
         note(located, position, op, index, judgement, faults, &mut reads)?;
     }
     Ok(reads)
@@ -235,8 +240,8 @@ pub(crate) fn trace(
     for (before, op) in ops.iter().enumerate() {
         let position = before as u16 + 1;
         let index = indices[before];
-        let earlier = &ops[..before];
-        let judgement = judgement_of(writers, false, located, position, *op, index, earlier);
+        let (done, earlier) = (&ops[..before], &indices[..before]);
+        let judgement = judgement_of(writers, false, located, position, *op, index, done, earlier);
         note_traced(rewrites, op, index, judgement, &mut reads)?;
     }
     Ok(reads)

@@ -1,4 +1,7 @@
 //! Which transaction read from which: each external read of a snapshot gets its source, or every fault is named.
+//!
+//! Needs: snapshots of any size (`tcc_txn`).
+//! Must hold: either each external read has its one source, or all faults are named; transactions are numbered by session name and place.
 #![tactic(auto)]
 
 mod fault;

@@ -14,7 +14,7 @@ pub enum Replica {
 
 /// A write, with the rounds from which on each replica has it.
 #[derive(Clone, Copy)]
-struct Version {
+struct StoredVersion {
     key: Name,
     value: u64,
     near: u32,
@@ -24,10 +24,10 @@ struct Version {
 /// All writes, in the order in which they were made.
 #[derive(Drop)]
 pub struct Store {
-    versions: Vec<Version>,
+    versions: Vec<StoredVersion>,
 }
 
-impl Version {
+impl StoredVersion {
     /// Whether the replica has it in this round.
     fn is_at(&self, replica: Replica, round: u32) -> bool {
         match replica {
@@ -59,7 +59,7 @@ impl Store {
     /// Writes a value in this round. The near replica has it from the next round on, the far one `late` rounds later.
     pub fn put(&mut self, key: Name, value: u64, round: u32, late: u32) -> Result<(), NoMemory> {
         let near = round.saturating_add(1);
-        self.versions.push(Version {
+        self.versions.push(StoredVersion {
             key,
             value,
             near,

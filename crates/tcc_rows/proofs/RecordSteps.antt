@@ -22,7 +22,7 @@ use Rattle.tcc_rows.specs.Ahead.{IsFailure}
 use Rattle.tcc_rows.specs.private.Stages.{StopsIn, TakesRecord}
 use Rattle.tcc_rows.specs.declared.fault.RowFault.{RowFault}
 use Rattle.tcc_rows.specs.declared.fault.RowFaultKind.{RowFaultKind}
-use Rattle.tcc_rows.specs.declared.rows.Stage.TheVariants as stage
+use Rattle.tcc_rows.specs.declared.rows.RowsStage.TheVariants as stage
 use Rattle.tcc_rows.specs.declared.rows.Rows.{Rows}
 use Rattle.tcc_rows.specs.declared.rows.records.Records.{Records}
 

@@ -9,12 +9,13 @@ use Rattle.std.proofs.lemmas.Option.{none-some}
 use Rattle.tcc_rows.specs.Ahead.{IsAhead, IsAheadIn, TakesAnswer, ended_in, fault_in, has_ended}
 use Rattle.tcc_rows.specs.Answers.{Answers, after_item, answers_after_within, answers_to, answers_within, ending, records_within, settled, settled_behind}
 use Rattle.tcc_rows.specs.Failing.{FailsAtWithin, given_before_within, items_before_within}
+use Rattle.tcc_rows.specs.Followed.{IsFollowed}
 use Rattle.tcc_txn.specs.Finished.{IsWithinLimits, with_transaction}
 use Rattle.tcc_rows.specs.Items.{finished_in, with_item}
 use Rattle.tcc_rows.specs.Lines.{Record}
 use Rattle.tcc_rows.specs.Reached.{IsWithin, StandsBy, row_in, row_reached}
 use Rattle.tcc_rows.specs.Recordings.{FailsBehind, HasSealsBefore, IsAtCheckpoint, IsRecorded, IsRecording, Passes, TakesCheckpoint, after_items, has_seal, is_seal, seals_in}
-use Rattle.tcc_rows.specs.Settling.{seen_among, shown, told, unseen_among, with_shown}
+use Rattle.tcc_rows.specs.Settling.{Pending, seen_among, shown, told, unseen_among, with_shown}
 use Rattle.tcc_rows.specs.private.Waiting.{AddsSome, IsUnderWay, IsUnsettled, PassesItems, given_at}
 use Rattle.tcc_txn.specs.Snapshots.{Sessions}
 use Rattle.tcc_txn.specs.Transactions.{Transaction}
@@ -24,8 +25,8 @@ use Rattle.tcc_rows.specs.declared.recording.Checkpoint.TheVariants as checkpoin
 use Rattle.tcc_rows.specs.declared.recording.RecordingWithin.{RecordingWithin}
 use Rattle.tcc_rows.specs.declared.rows.Item.{Item}
 use Rattle.tcc_rows.specs.declared.rows.Item.TheVariants as item
-use Rattle.tcc_rows.specs.declared.rows.Stage.{Stage}
-use Rattle.tcc_rows.specs.declared.rows.Stage.TheVariants as stage
+use Rattle.tcc_rows.specs.declared.rows.RowsStage.{RowsStage}
+use Rattle.tcc_rows.specs.declared.rows.RowsStage.TheVariants as stage
 use Rattle.tcc_rows.specs.declared.fault.RowFault.{RowFault}
 use Rattle.tcc_rows.specs.declared.fault.RowFaultKind.TheVariants as kind
 use Rattle.tcc_rows.specs.declared.rows.records.RecordsStage.{RecordsStage}
@@ -44,19 +45,33 @@ HasPassed limits remaining recording taken ahead =
 abbrev pub HasTaken : {R B : Type 0} → Limits → (R → Option (List ℕ)) → RecordingWithin R B → Answers → Type 0
 HasTaken limits remaining recording all = (taken : List Item) × (ahead : Answers) × (all ≡ after_items taken ahead) × IsRecording limits remaining recording taken ahead
 
+-- what is kept of the values of pending transactions is right
+abbrev pub HasFollowed : {R B : Type 0} → RecordingWithin R B → Type 0
+HasFollowed recording = IsFollowed recording.snapshot recording.pending.items recording.values
+
+-- that is also so where nothing is kept
+pub follows-unknown : {R B : Type 0} (recording : RecordingWithin R B) → recording.values ≡ None → HasFollowed recording
+follows-unknown recording none = rw none tt
+
+-- one more transaction is finished, and those that are pending stay so
+pub follows-taken : {R B : Type 0} (old new : RecordingWithin R B) → new.pending ≡ old.pending
+    → ((pending : Pending) → IsFollowed old.snapshot pending old.values → IsFollowed new.snapshot pending new.values)
+    → HasFollowed old → HasFollowed new
+follows-taken old new same taken before = subst (λ pending. IsFollowed new.snapshot pending.items new.values) (sym same) (taken old.pending.items before)
+
 pub no-reading : (fault : RowFault) → stage.Stopped fault ≡ stage.Reading → ⊥
 no-reading fault e = cc e
 
 pub not-ok : (fault : RowFault) → ◌≡◌ {A = Result Item RowFault} (Err fault) (Ok item.End) → ⊥
 not-ok fault e = cc e
 
-pub met-stopped : (p : Stage) (fault : RowFault) → fault_in p ≡ Some fault → p ≡ stage.Stopped fault
+pub met-stopped : (p : RowsStage) (fault : RowFault) → fault_in p ≡ Some fault → p ≡ stage.Stopped fault
 met-stopped stage.Reading fault e = cc e
 met-stopped stage.Ended fault e = cc e
 met-stopped (stage.Stopped met) fault e = cc e
 
 -- if neither a fault nor the end was reached, there may be more records
-pub at-checkpoint : {X : Type 0} (p : Stage) → (p ≡ stage.Reading → X) → fault_in p ≡ None → (ended_in p ≡ true → ⊥) → X
+pub at-checkpoint : {X : Type 0} (p : RowsStage) → (p ≡ stage.Reading → X) → fault_in p ≡ None → (ended_in p ≡ true → ⊥) → X
 at-checkpoint stage.Reading is fresh going = is refl
 at-checkpoint stage.Ended is fresh going = absurd (going refl)
 at-checkpoint (stage.Stopped fault) is fresh going = absurd (none-some fault (sym fresh))
@@ -64,7 +79,7 @@ at-checkpoint (stage.Stopped fault) is fresh going = absurd (none-some fault (sy
 pub no-end-stopped : (fault : RowFault) → ended_in (stage.Stopped fault) ≡ true → ⊥
 no-end-stopped fault e = cc e
 
-ended-reading : (p : Stage) → ended_in p ≡ true → p ≡ stage.Reading → ⊥
+ended-reading : (p : RowsStage) → ended_in p ≡ true → p ≡ stage.Reading → ⊥
 ended-reading stage.Reading e is = cc
 ended-reading stage.Ended e is = cc is
 ended-reading (stage.Stopped fault) e is = cc e
@@ -76,8 +91,9 @@ module _ (limits : Limits) where
   module _ {R : Type 0} (remaining : R → Option (List ℕ)) where
     -- nothing is taken yet
     pub begins : {B : Type 0} (recording : RecordingWithin R B) (given : Answers) → IsAhead limits remaining recording.rows given → recording.snapshot ≡ map.empty
-        → recording.pending.items ≡ [] → IsWithinLimits limits (finished_in (settled given).items) → IsRecording limits remaining recording [] (settled given)
-    begins recording given ahead none nothing kept = record {
+        → recording.pending.items ≡ [] → IsWithinLimits limits (finished_in (settled given).items) → HasFollowed recording
+        → IsRecording limits remaining recording [] (settled given)
+    begins recording given ahead none nothing kept followed = record {
       given = given;
       answers = ahead;
       settles = λ i. settled_behind (sym none i) (sym nothing i) given;
@@ -85,19 +101,20 @@ module _ (limits : Limits) where
       limits_kept = kept;
       checkpoint = λ reading. inl refl;
       closed = λ ended. nothing;
+      followed = followed;
     }
 
     -- at a checkpoint or after it
     pub under-way : {B : Type 0} (recording : RecordingWithin R B) (taken : List Item) (ahead : Answers) → IsRecording limits remaining recording taken ahead
         → IsUnderWay limits remaining recording taken ahead
     under-way recording taken ahead is =
-        record { given = is.given; answers = is.answers; settles = is.settles; snapshot = is.snapshot; limits_kept = is.limits_kept }
+        record { given = is.given; answers = is.answers; settles = is.settles; snapshot = is.snapshot; followed = is.followed; limits_kept = is.limits_kept }
 
     -- nothing more is taken
     stays : {B : Type 0} (old new : RecordingWithin R B) (taken : List Item) (rest : Answers) (fault : RowFault) → IsUnderWay limits remaining old taken rest
         → IsAhead limits remaining new.rows (ending (Some fault)) → new.snapshot ≡ old.snapshot → new.rows.stage ≡ stage.Stopped fault
-        → IsRecording limits remaining new taken (ending (Some fault))
-    stays old new taken rest fault recording ahead same stopped = record {
+        → HasFollowed new → IsRecording limits remaining new taken (ending (Some fault))
+    stays old new taken rest fault recording ahead same stopped followed = record {
       given = ending (Some fault);
       answers = ahead;
       settles = refl;
@@ -105,6 +122,7 @@ module _ (limits : Limits) where
       limits_kept = limits-of taken (taken ++ []) (sym (append-nil taken)) (limits-before limits taken rest.items recording.limits_kept);
       checkpoint = λ reading. absurd (no-reading fault (sym stopped ∙ reading));
       closed = λ ended. absurd (no-end-stopped fault (ap ended_in (sym stopped) ∙ ended));
+      followed = followed;
     }
 
     -- one more item is passed
@@ -130,8 +148,9 @@ module _ (limits : Limits) where
       (way : HasPassed limits remaining old taken ahead) where
     -- the session has finished one more transaction
     pub goes_on : (session : List ℕ) (txn : Transaction) → TakesAnswer limits remaining way.3.given (Ok (item.Finished session txn)) new.rows
-        → new.snapshot ≡ with_transaction old.snapshot session txn → new.pending.items ≡ old.pending.items → HasPassed limits remaining new taken ahead
-    goes_on session txn answer grown waiting =
+        → new.snapshot ≡ with_transaction old.snapshot session txn → new.pending.items ≡ old.pending.items → HasFollowed new
+        → HasPassed limits remaining new taken ahead
+    goes_on session txn answer grown waiting followed =
         let next = settled_behind new.snapshot new.pending.items answer.0 in
         let first : way.1 ≡ after_item (Some (item.Finished session txn)) next =
         way.3.settles ∙ ap (settled_behind old.snapshot old.pending.items) answer.1
@@ -145,6 +164,7 @@ module _ (limits : Limits) where
             settles = refl;
             snapshot = grown ∙ ap (λ s. with_transaction s session txn) way.3.snapshot ∙ sym (finished_in-push (taken ++ way.0) (item.Finished session txn))
                 ∙ ap finished_in (append_assoc taken way.0 (item.Finished session txn ∷ []));
+            followed = followed;
             limits_kept = limits-of ((taken ++ way.0) ++ way.1.items) ((taken ++ (way.0 ++ item.Finished session txn ∷ [])) ++ next.items)
                 (ap (λ (rest : Answers). (taken ++ way.0) ++ rest.items) first ∙ sym (append_assoc (taken ++ way.0) (item.Finished session txn ∷ []) next.items)
                 ∙ ap (λ items. items ++ next.items) (append_assoc taken way.0 (item.Finished session txn ∷ []))) way.3.limits_kept;
@@ -153,8 +173,9 @@ module _ (limits : Limits) where
 
     -- the outcome of a transaction of the session is unknown
     pub waits : (session : List ℕ) (txn : Transaction) → TakesAnswer limits remaining way.3.given (Ok (item.Unknown session txn)) new.rows
-        → new.snapshot ≡ old.snapshot → new.pending.items ≡ old.pending.items ++ (session, txn) ∷ [] → HasPassed limits remaining new taken ahead
-    waits session txn answer same waiting = (
+        → new.snapshot ≡ old.snapshot → new.pending.items ≡ old.pending.items ++ (session, txn) ∷ [] → HasFollowed new
+        → HasPassed limits remaining new taken ahead
+    waits session txn answer same waiting followed = (
       way.0,
       way.1,
       way.2,
@@ -163,6 +184,7 @@ module _ (limits : Limits) where
         answers = answer.2;
         settles = way.3.settles ∙ ap (settled_behind old.snapshot old.pending.items) answer.1 ∙ (λ i. settled_behind (sym same i) (sym waiting i) answer.0);
         snapshot = same ∙ way.3.snapshot;
+        followed = followed;
         limits_kept = way.3.limits_kept;
       },
     )
@@ -186,8 +208,8 @@ module _ (limits : Limits) where
 
     -- the rows have come to a seal, or to the end
     pub comes_to_seal : TakesAnswer limits remaining way.3.given (Ok item.Seal) new.rows → new.snapshot ≡ old.snapshot → new.pending.items ≡ old.pending.items
-        → PassesItems limits remaining taken ahead (Ok checkpoint.Seal) new
-    comes_to_seal answer same waiting = record {
+        → HasFollowed new → PassesItems limits remaining taken ahead (Ok checkpoint.Seal) new
+    comes_to_seal answer same waiting followed = record {
       passed = way.0;
       given = answer.0;
       passes = (
@@ -198,12 +220,13 @@ module _ (limits : Limits) where
       answers = answer.2;
       last = λ e. cc e;
       snapshot = same ∙ way.3.snapshot;
+      followed = followed;
       limits_kept = whole-kept;
     }
 
     pub comes_to_end : TakesAnswer limits remaining way.3.given (Ok item.End) new.rows → new.snapshot ≡ old.snapshot → new.pending.items ≡ old.pending.items
-        → PassesItems limits remaining taken ahead (Ok checkpoint.End) new
-    comes_to_end answer same waiting = record {
+        → HasFollowed new → PassesItems limits remaining taken ahead (Ok checkpoint.End) new
+    comes_to_end answer same waiting followed = record {
       passed = way.0;
       given = ending None;
       passes = (
@@ -214,28 +237,29 @@ module _ (limits : Limits) where
       answers = answer.1;
       last = λ e. refl;
       snapshot = same ∙ way.3.snapshot;
+      followed = followed;
       limits_kept = whole-kept;
     }
 
     pub stops : (fault : RowFault) → TakesAnswer limits remaining way.3.given (Err fault) new.rows → new.snapshot ≡ old.snapshot → new.rows.stage ≡ stage.Stopped fault
-        → TakesCheckpoint limits remaining taken ahead (Err fault) new
-    stops fault answer same stopped = (
+        → HasFollowed new → TakesCheckpoint limits remaining taken ahead (Err fault) new
+    stops fault answer same stopped followed = (
       way.0,
       way.1,
       way.2,
       elim answer.0 [
         | inl faulty ↦ inl (
           way.3.settles ∙ ap (settled_behind old.snapshot old.pending.items) faulty,
-          stays remaining old new (taken ++ way.0) way.1 fault way.3 answer.1 same stopped,
+          stays remaining old new (taken ++ way.0) way.1 fault way.3 answer.1 same stopped followed,
         )
-        | inr fails ↦ inr (fails.0, way.0, [], sym (append-nil way.0), stays remaining old new (taken ++ way.0) way.1 fault way.3 answer.1 same stopped)
+        | inr fails ↦ inr (fails.0, way.0, [], sym (append-nil way.0), stays remaining old new (taken ++ way.0) way.1 fault way.3 answer.1 same stopped followed)
       ],
     )
 
     -- memory is refused
     pub gives_up : (fault : RowFault) → fault.kind ≡ kind.NoMemory → new.rows.stage ≡ stage.Stopped fault → new.snapshot ≡ old.snapshot
-        → TakesCheckpoint limits remaining taken ahead (Err fault) new
-    gives_up fault memory stopped same = (
+        → HasFollowed new → TakesCheckpoint limits remaining taken ahead (Err fault) new
+    gives_up fault memory stopped same followed = (
       way.0,
       way.1,
       way.2,
@@ -245,20 +269,21 @@ module _ (limits : Limits) where
         [],
         sym (append-nil way.0),
         stays remaining old new (taken ++ way.0) way.1 fault way.3
-            (rw stopped refl) same stopped,
+            (rw stopped refl) same stopped followed,
       ),
     )
 
     -- memory is refused for one more transaction
     pub loses_one : (session : List ℕ) (txn : Transaction) (rows : Rows R) (fault : RowFault) → TakesAnswer limits remaining way.3.given (Ok (item.Finished session txn)) rows
-        → fault.kind ≡ kind.NoMemory → new.rows.stage ≡ stage.Stopped fault → new.snapshot ≡ old.snapshot → TakesCheckpoint limits remaining taken ahead (Err fault) new
-    loses_one session txn rows fault answer memory stopped same =
+        → fault.kind ≡ kind.NoMemory → new.rows.stage ≡ stage.Stopped fault → new.snapshot ≡ old.snapshot → HasFollowed new
+        → TakesCheckpoint limits remaining taken ahead (Err fault) new
+    loses_one session txn rows fault answer memory stopped same followed =
         let next = settled_behind (with_transaction old.snapshot session txn) old.pending.items answer.0 in
         let first : way.1 ≡ after_item (Some (item.Finished session txn)) next = way.3.settles ∙ ap (settled_behind old.snapshot old.pending.items) answer.1 in (
           way.0 ++ item.Finished session txn ∷ [],
           next,
           passes remaining ahead way.0 (item.Finished session txn) way.1 next way.2 refl first,
-          inr (inr memory, way.0, item.Finished session txn ∷ [], refl, stays remaining old new (taken ++ way.0) way.1 fault way.3 (rw stopped refl) same stopped),
+          inr (inr memory, way.0, item.Finished session txn ∷ [], refl, stays remaining old new (taken ++ way.0) way.1 fault way.3 (rw stopped refl) same stopped followed),
         )
 
     -- the reading of one more record fails
@@ -340,8 +365,8 @@ module _ (limits : Limits) where
 
     -- memory is refused for one of them
     pub loses_shown : (fault : RowFault) → fault.kind ≡ kind.NoMemory → new.rows.stage ≡ stage.Stopped fault → AddsSome old.snapshot now new.snapshot
-        → TakesCheckpoint limits remaining taken ahead (Err fault) new
-    loses_shown fault memory stopped (kept, lost, is, grown) = (
+        → HasFollowed new → TakesCheckpoint limits remaining taken ahead (Err fault) new
+    loses_shown fault memory stopped (kept, lost, is, grown) followed = (
       way.passed ++ now,
       behind_now m,
       (unsealed-now, ahead-now),
@@ -358,6 +383,7 @@ module _ (limits : Limits) where
           limits_kept = limits-of (taken ++ (way.passed ++ kept)) ((taken ++ (way.passed ++ kept)) ++ []) (sym (append-nil (taken ++ (way.passed ++ kept)))) (limits-now kept lost is);
           checkpoint = λ reading. absurd (no-reading fault (sym stopped ∙ reading));
           closed = λ ended. absurd (no-end-stopped fault (ap ended_in (sym stopped) ∙ ended));
+          followed = followed;
         },
       ),
     )
@@ -368,8 +394,8 @@ module _ (limits : Limits) where
 
       -- at a seal
       pub settled-seal : m ≡ checkpoint.Seal → new.pending.items ≡ unseen_among old.snapshot old.pending.items → new.rows.stage ≡ stage.Reading
-          → TakesCheckpoint limits remaining taken ahead (Ok checkpoint.Seal) new
-      settled-seal at left reading =
+          → HasFollowed new → TakesCheckpoint limits remaining taken ahead (Ok checkpoint.Seal) new
+      settled-seal at left reading followed =
           let rest = settled_behind new.snapshot new.pending.items way.given in
           let last : behind_now m ≡ after_items (item.Seal ∷ []) rest
           = ap behind_now at ∙ (λ i. after_items (item.Seal ∷ []) (settled_behind (sym grown i) (sym left i) way.given)) in
@@ -389,12 +415,14 @@ module _ (limits : Limits) where
                   ∙ sym (append_assoc taken ((way.passed ++ now) ++ item.Seal ∷ []) rest.items)) way.limits_kept;
               checkpoint = λ _. inr (taken ++ (way.passed ++ now), sym pushed);
               closed = λ ended. absurd (ended-reading new.rows.stage ended reading);
+              followed = followed;
             },
           )
 
       -- at the end
-      pub settled-end : m ≡ checkpoint.End → new.pending.items ≡ [] → has_ended new.rows ≡ true → TakesCheckpoint limits remaining taken ahead (Ok checkpoint.End) new
-      settled-end at none ended = (
+      pub settled-end : m ≡ checkpoint.End → new.pending.items ≡ [] → has_ended new.rows ≡ true → HasFollowed new
+          → TakesCheckpoint limits remaining taken ahead (Ok checkpoint.End) new
+      settled-end at none ended followed = (
         way.passed ++ now,
         (unsealed-now, ahead-now ∙ ap (λ n. after_items (way.passed ++ now) (behind_now n)) at),
         record {
@@ -406,6 +434,7 @@ module _ (limits : Limits) where
               (limits-now now [] (sym (append-nil now)));
           checkpoint = λ reading. absurd (ended-reading new.rows.stage ended reading);
           closed = λ _. none;
+          followed = followed;
         },
       )
 
@@ -426,10 +455,11 @@ module _ (limits : Limits) where
               (ap (λ (a : Answers). taken ++ a.items) last ∙ ap (λ items. items ++ []) (sym (append-nil taken))) is.limits_kept;
           checkpoint = λ reading. absurd (ended-reading recording.rows.stage ended reading);
           closed = is.closed;
+          followed = is.followed;
         },
       )
     where
-      by : (p : Stage) → ended_in p ≡ true → IsAheadIn limits p remaining recording.rows is.given → is.given ≡ ending None
+      by : (p : RowsStage) → ended_in p ≡ true → IsAheadIn limits p remaining recording.rows is.given → is.given ≡ ending None
       by stage.Reading e at = cc e
       by stage.Ended e at = at
       by (stage.Stopped fault) e at = cc e
@@ -458,7 +488,7 @@ module _ (limits : Limits) where
       → rows.records.count ≤ length all
   count-within remaining rows all within = by rows.stage within
     where
-      by : (p : Stage) → StandsBy p remaining rows.records all → rows.records.count ≤ length all
+      by : (p : RowsStage) → StandsBy p remaining rows.records all → rows.records.count ≤ length all
       by stage.Reading stands = omega (arith, stands.counted, ap length stands.whole, length-append stands.first stands.left)
       by stage.Ended stands = omega (arith, stands)
       by (stage.Stopped fault) stands = stands

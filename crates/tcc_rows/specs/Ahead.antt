@@ -5,8 +5,8 @@ use Rattle.tcc_rows.specs.Lines.{Record}
 use Rattle.tcc_txn.specs.declared.limits.Limits.{Limits}
 use Rattle.tcc_rows.specs.declared.rows.Item.{Item}
 use Rattle.tcc_rows.specs.declared.rows.Item.TheVariants as item
-use Rattle.tcc_rows.specs.declared.rows.Stage.{Stage}
-use Rattle.tcc_rows.specs.declared.rows.Stage.TheVariants as stage
+use Rattle.tcc_rows.specs.declared.rows.RowsStage.{RowsStage}
+use Rattle.tcc_rows.specs.declared.rows.RowsStage.TheVariants as stage
 use Rattle.tcc_rows.specs.declared.fault.RowFault.{RowFault}
 use Rattle.tcc_rows.specs.declared.fault.RowFaultKind.{RowFaultKind}
 use Rattle.tcc_rows.specs.declared.fault.RowFaultKind.TheVariants as kind
@@ -15,13 +15,13 @@ use Rattle.tcc_rows.specs.declared.rows.Rows.{Rows}
 use Rattle.tcc_rows.specs.Line.{Line}
 
 -- the stage after an item
-abbrev pub stage_after : Item → Stage
+abbrev pub stage_after : Item → RowsStage
 stage_after item.End = stage.Ended
 stage_after item.Seal = stage.Reading
 stage_after (item.Finished name txn) = stage.Reading
 stage_after (item.Unknown name txn) = stage.Reading
 
-abbrev pub IsAheadIn : {R : Type 0} → Limits → Stage → (R → Option (List ℕ)) → Rows R → Answers → Type 0
+abbrev pub IsAheadIn : {R : Type 0} → Limits → RowsStage → (R → Option (List ℕ)) → Rows R → Answers → Type 0
 IsAheadIn limits stage.Reading remaining rows ahead = IsMidway limits remaining rows ahead
 IsAheadIn limits stage.Ended remaining rows ahead = ahead ≡ ending None
 IsAheadIn limits (stage.Stopped fault) remaining rows ahead = ahead ≡ ending (Some fault)
@@ -31,7 +31,7 @@ abbrev pub IsAhead : {R : Type 0} → Limits → (R → Option (List ℕ)) → R
 IsAhead limits remaining rows ahead = IsAheadIn limits rows.stage remaining rows ahead
 
 -- the fault that was reached, if there was one
-abbrev pub fault_in : Stage → Option RowFault
+abbrev pub fault_in : RowsStage → Option RowFault
 fault_in stage.Reading = None
 fault_in stage.Ended = None
 fault_in (stage.Stopped fault) = Some fault
@@ -40,7 +40,7 @@ abbrev pub fault_met : {R : Type 0} → Rows R → Option RowFault
 fault_met rows = fault_in rows.stage
 
 -- the end was reached
-abbrev pub ended_in : Stage → Bool
+abbrev pub ended_in : RowsStage → Bool
 ended_in stage.Reading = false
 ended_in stage.Ended = true
 ended_in (stage.Stopped fault) = false

@@ -3,6 +3,7 @@ pub mod Answers
 pub mod BothLimits
 pub mod ByteLimit
 pub mod Failing
+pub mod Followed
 pub mod Interleaved
 pub mod Items
 pub mod Line

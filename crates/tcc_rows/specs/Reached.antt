@@ -5,8 +5,8 @@ use Rattle.tcc_rows.specs.Lines.{Record}
 use Rattle.tcc_rows.specs.RecordsLeft.{HasLeft, record_of}
 use Rattle.tcc_rows.specs.declared.fault.RowFaultKind.{RowFaultKind}
 use Rattle.tcc_rows.specs.declared.fault.RowFaultKind.TheVariants as kind
-use Rattle.tcc_rows.specs.declared.rows.Stage.{Stage}
-use Rattle.tcc_rows.specs.declared.rows.Stage.TheVariants as stage
+use Rattle.tcc_rows.specs.declared.rows.RowsStage.{RowsStage}
+use Rattle.tcc_rows.specs.declared.rows.RowsStage.TheVariants as stage
 use Rattle.tcc_rows.specs.declared.rows.Rows.{Rows}
 use Rattle.tcc_rows.specs.declared.rows.records.RecordsStage.{RecordsStage}
 use Rattle.tcc_rows.specs.declared.rows.records.RecordsStage.TheVariants as records_stage
@@ -54,7 +54,7 @@ pub record StandsIn {R : Type 0} (remaining : R → Option (List ℕ)) (records 
   pub last : 0 < records.count → record_of records ≡ record_at records.count all
   pub going : records.stage ≡ records_stage.Going
 
-abbrev pub StandsBy : {R : Type 0} → Stage → (R → Option (List ℕ)) → Records R → List Record → Type 0
+abbrev pub StandsBy : {R : Type 0} → RowsStage → (R → Option (List ℕ)) → Records R → List Record → Type 0
 StandsBy stage.Reading remaining records all = StandsIn remaining records all
 StandsBy stage.Ended remaining records all = records.count ≡ length all
 StandsBy (stage.Stopped fault) remaining records all = records.count ≤ length all

@@ -4,6 +4,7 @@ use Rattle.std.specs.List.{list_any}
 use Rattle.tcc_rows.specs.Ahead.{IsAhead, IsFailure, has_ended}
 use Rattle.tcc_rows.specs.Answers.{Answers, answers_after_within, answers_within, ending, records_within, settled_behind}
 use Rattle.tcc_rows.specs.Failing.{FailsAtWithin, given_before_within, items_before_within}
+use Rattle.tcc_rows.specs.Followed.{IsFollowed}
 use Rattle.tcc_txn.specs.Finished.{IsWithinLimits}
 use Rattle.tcc_rows.specs.Items.{finished_in}
 use Rattle.tcc_rows.specs.Lines.{Record}
@@ -12,7 +13,7 @@ use Rattle.tcc_txn.specs.declared.limits.Limits.{Limits}
 use Rattle.tcc_rows.specs.declared.recording.Checkpoint.{Checkpoint}
 use Rattle.tcc_rows.specs.declared.recording.Checkpoint.TheVariants as checkpoint
 use Rattle.tcc_rows.specs.declared.recording.RecordingWithin.{RecordingWithin}
-use Rattle.tcc_rows.specs.declared.rows.Stage.TheVariants as stage
+use Rattle.tcc_rows.specs.declared.rows.RowsStage.TheVariants as stage
 use Rattle.tcc_rows.specs.declared.rows.Item.{Item}
 use Rattle.tcc_rows.specs.declared.rows.Item.TheVariants as item
 use Rattle.tcc_rows.specs.declared.fault.RowFault.{RowFault}
@@ -46,7 +47,8 @@ abbrev pub IsAtCheckpoint : List Item → Type 0
 IsAtCheckpoint taken = (taken ≡ []) ⊎ ((front : List Item) × (taken ≡ front ++ item.Seal ∷ []))
 
 -- These items were taken, the snapshot is that of what they finish, and these answers are still to come, all under the limits.
--- While there may be more records, the recording is at a seal, or at its beginning. After the end nothing is pending.
+-- While there may be more records, the recording is at a seal, or at its beginning. After the end nothing is pending. What is
+-- kept of the values of pending transactions is right.
 pub record IsRecording (limits : Limits) {R B : Type 0} (remaining : R → Option (List ℕ)) (recording : RecordingWithin R B) (taken : List Item)
     (ahead : Answers) : Type 0 where
   pub given : Answers
@@ -56,6 +58,7 @@ pub record IsRecording (limits : Limits) {R B : Type 0} (remaining : R → Optio
   pub limits_kept : IsWithinLimits limits (finished_in (taken ++ ahead.items))
   pub checkpoint : recording.rows.stage ≡ stage.Reading → IsAtCheckpoint taken
   pub closed : has_ended recording.rows ≡ true → recording.pending.items ≡ []
+  pub followed : IsFollowed recording.snapshot recording.pending.items recording.values
 
 -- the answers to come begin with these items, which have no seal, and then others follow
 abbrev pub Passes : Answers → List Item → Answers → Type 0

@@ -1,4 +1,8 @@
 //! From records of sessions to what they finish: rows one after another, and recordings, which are snapshots that grow.
+//!
+//! Needs: snapshots that grow (`tcc_txn`).
+//! Must hold: what is taken so far is what the definitions give for the records read so far, whatever comes later; a fault stays.
+//! Kept for callers: `large_snapshot_of`.
 #![tactic(auto)]
 
 mod fault;

@@ -3,14 +3,15 @@ ghost use Rattle.std.specs.Prelude.{◌≡◌, ◌≢◌, ◌++◌, ◌∷◌, �
 ghost use Rattle.csv.specs.Records.{field_at};
 ghost use Rattle.tcc_rows.specs.{Ahead.fault_met, Ahead.has_ended, Items.finished_in, Items.with_item, Lines.Record, declared.rows.Item.Item};
 ghost use Rattle.tcc_rows.specs.Answers.{Answers, answers_to, answers_within, records_within};
-ghost use Rattle.tcc_rows.specs.Settling.{shown, told, unseen_among, with_shown};
+ghost use Rattle.tcc_rows.specs.Followed.{Follows, IsFollowed};
+ghost use Rattle.tcc_rows.specs.Settling.{Pending, shown, told, unseen_among, with_shown};
 ghost use Rattle.tcc_rows.specs.private.Waiting.{AddsSome, PassesItems};
 ghost use Rattle.tcc_rows.specs.Reached.{IsWithin, ReaderFailed, is_of_record, last_record, record_at, row_reached};
 ghost use Rattle.tcc_rows.specs.Recordings.{FailsBehind, IsRecorded, IsRecording, TakesCheckpoint, after_items};
 ghost use Rattle.tcc_txn.specs.{Finished.IsWithinLimits, Finished.with_transaction, Nested.IsNested, declared.limits.Limits.TheVariants.Small, declared.limits.Limits.TheVariants.Large};
-ghost use Rattle.tcc_rows.specs.declared.rows.Stage.TheVariants as stage;
+ghost use Rattle.tcc_rows.specs.declared.rows.RowsStage.TheVariants as stage;
 
-use crate::pending::settle;
+use crate::pending::{PendingValues, strike_finished, take_values};
 use crate::{Item, RowFault, RowFaultKind, Rows};
 use std::alloc::Global;
 use std::io::Read;
@@ -35,6 +36,8 @@ pub struct RecordingWithin<R, B: Bounds> {
     rows: Rows<R>,
     snapshot: SnapshotWithin<B>,
     pending: Vec<(Name, Txn)>,
+    /// What they wrote, where that is known: not if one is pending since the last settling.
+    values: Option<PendingValues>,
 }
 
 /// A recording within the small limits.
@@ -54,6 +57,7 @@ impl<R: Read + Drop, B: Bounds> RecordingWithin<R, B> {
             rows: Rows::within(alloc, reader, B::limits())?,
             snapshot: SnapshotWithin::empty(alloc),
             pending: Vec::new(alloc),
+            values: None,
         })
     }
 
@@ -97,9 +101,18 @@ impl<R: Read + Drop, B: Bounds> RecordingWithin<R, B> {
         match checkpoint {
             Checkpoint::Seal => {}
             // Nobody will read more.
-            Checkpoint::End => self.pending.clear(),
+            Checkpoint::End => self.forget_pending(),
         }
         Ok(checkpoint)
+    }
+
+    /// Nothing is pending any more.
+    fn forget_pending(&mut self)
+        ensures kept { (self.new.snapshot ≡ self.old.snapshot) × (self.new.rows ≡ self.old.rows) }
+        ensures forgotten { (self.new.pending.items ≡ []) × (self.new.values ≡ None) }
+    {
+        self.pending.clear();
+        self.values = None;
     }
 
     /// Reads on to the next seal or to the end, where nothing is settled yet.
@@ -134,13 +147,15 @@ impl<R: Read + Drop, B: Bounds> RecordingWithin<R, B> {
         Err(self.rows.give_up(RowFaultKind::NoMemory))
     }
 
-    /// A transaction of the session ended with unknown outcome.
+    /// A transaction of the session ended with unknown outcome. The next settling looks for earlier reads of its values.
     fn wait(&mut self, session: Name, txn: Txn) -> Result<(), RowFault>
         ensures kept { self.new.snapshot ≡ self.old.snapshot }
+        ensures unknown { self.new.values ≡ None }
         ensures waits { OnOk result ((self.new.pending.items ≡ self.old.pending.items ++ (session, txn) ∷ []) × (self.new.rows ≡ self.old.rows)) }
         ensures stopped { IfErr result (λ fault. (self.new.rows ≡ record self.old.rows { stage = stage.Stopped fault })
             × (fault ≡ record { row = row_reached self.old.rows; kind = RowFaultKind.NoMemory })) }
     {
+        self.values = None;
         if self.pending.push((session, txn)).is_err() {
             return Err(self.rows.give_up(RowFaultKind::NoMemory));
         }
@@ -149,22 +164,57 @@ impl<R: Read + Drop, B: Bounds> RecordingWithin<R, B> {
 
     /// The pending transactions of which a value was read are finished.
     fn settle(&mut self, alloc: Global) -> Result<(), RowFault>
-        ensures settled { OnOk result ((self.new.snapshot ≡ with_shown self.old.snapshot self.old.pending.items)
+        ensures settled { IsFollowed self.old.snapshot self.old.pending.items self.old.values
+            → OnOk result ((self.new.snapshot ≡ with_shown self.old.snapshot self.old.pending.items)
             × (self.new.pending.items ≡ unseen_among self.old.snapshot self.old.pending.items) × (self.new.rows ≡ self.old.rows)) }
-        ensures part { OnErr result (AddsSome self.old.snapshot (shown self.old.snapshot self.old.pending.items) self.new.snapshot) }
+        ensures followed { IsFollowed self.old.snapshot self.old.pending.items self.old.values
+            → IsFollowed self.new.snapshot self.new.pending.items self.new.values }
+        ensures part { IsFollowed self.old.snapshot self.old.pending.items self.old.values
+            → OnErr result (AddsSome self.old.snapshot (shown self.old.snapshot self.old.pending.items) self.new.snapshot) }
+        ensures rows { OnOk result (self.new.rows ≡ self.old.rows) }
         ensures stopped { IfErr result (λ fault. (self.new.rows ≡ record self.old.rows { stage = stage.Stopped fault })
             × (fault.row ≡ row_reached self.old.rows)) }
         ensures known { IfErr result (λ fault. fault.kind ≢ RowFaultKind.Read) }
-        ensures memory { IsWithinLimits B.limits (with_shown self.old.snapshot self.old.pending.items) → IfErr result (λ fault. fault.kind ≡ RowFaultKind.NoMemory) }
+        ensures memory { IsFollowed self.old.snapshot self.old.pending.items self.old.values
+            → IsWithinLimits B.limits (with_shown self.old.snapshot self.old.pending.items) → IfErr result (λ fault. fault.kind ≡ RowFaultKind.NoMemory) }
         ensures continues { IsNested self.old.snapshot self.new.snapshot }
     {
         if self.pending.is_empty() {
             return Ok(());
         }
+        match take_values(alloc, &mut self.values, &self.snapshot, &self.pending) {
+            Ok(values) => self.settle_by(alloc, values),
+            Err(NoMemory) => Err(self.rows.give_up(RowFaultKind::NoMemory)),
+        }
+    }
+
+    /// The same, by what the pending transactions wrote.
+    fn settle_by(&mut self, alloc: Global, mut values: PendingValues) -> Result<(), RowFault>
+        requires { self.old.values ≡ None }
+        ensures settled { Follows self.old.snapshot self.old.pending.items values
+            → OnOk result ((self.new.snapshot ≡ with_shown self.old.snapshot self.old.pending.items)
+            × (self.new.pending.items ≡ unseen_among self.old.snapshot self.old.pending.items) × (self.new.rows ≡ self.old.rows)) }
+        ensures followed { Follows self.old.snapshot self.old.pending.items values
+            → IsFollowed self.new.snapshot self.new.pending.items self.new.values }
+        ensures part { Follows self.old.snapshot self.old.pending.items values
+            → OnErr result (AddsSome self.old.snapshot (shown self.old.snapshot self.old.pending.items) self.new.snapshot) }
+        ensures rows { OnOk result (self.new.rows ≡ self.old.rows) }
+        ensures stopped { IfErr result (λ fault. (self.new.rows ≡ record self.old.rows { stage = stage.Stopped fault })
+            × (fault.row ≡ row_reached self.old.rows)) }
+        ensures known { IfErr result (λ fault. fault.kind ≢ RowFaultKind.Read) }
+        ensures memory { Follows self.old.snapshot self.old.pending.items values
+            → IsWithinLimits B.limits (with_shown self.old.snapshot self.old.pending.items) → IfErr result (λ fault. fault.kind ≡ RowFaultKind.NoMemory) }
+        ensures continues { IsNested self.old.snapshot self.new.snapshot }
+    {
+        if values.has_none_found() {
+            self.values = Some(values);
+            return Ok(());
+        }
         let pending = mem::replace(&mut self.pending, Vec::new(alloc));
-        match settle(alloc, &self.snapshot, pending) {
+        match values.settle(alloc, pending) {
             Ok(settled) => {
                 self.pending = settled.unseen;
+                self.values = Some(values);
                 self.take_all(alloc, settled.seen)
             }
             Err(NoMemory) => Err(self.rows.give_up(RowFaultKind::NoMemory)),
@@ -175,6 +225,7 @@ impl<R: Read + Drop, B: Bounds> RecordingWithin<R, B> {
     fn take_all(&mut self, alloc: Global, seen: Vec<(Name, Txn)>) -> Result<(), RowFault>
         ensures taken { OnOk result ((self.new.snapshot ≡ fold with_item self.old.snapshot (map told seen.items)) × (self.new.rows ≡ self.old.rows)) }
         ensures pending { self.new.pending ≡ self.old.pending }
+        ensures followed { (pending : Pending) → IsFollowed self.old.snapshot pending self.old.values → IsFollowed self.new.snapshot pending self.new.values }
         ensures part { OnErr result (AddsSome self.old.snapshot (map told seen.items) self.new.snapshot) }
         ensures stopped { IfErr result (λ fault. (self.new.rows ≡ record self.old.rows { stage = stage.Stopped fault })
             × (fault.row ≡ row_reached self.old.rows)) }
@@ -192,16 +243,25 @@ impl<R: Read + Drop, B: Bounds> RecordingWithin<R, B> {
     fn take(&mut self, alloc: Global, session: Name, txn: Txn) -> Result<(), RowFault>
         ensures taken { OnOk result ((self.new.snapshot ≡ with_transaction self.old.snapshot session txn) × (self.new.rows ≡ self.old.rows)) }
         ensures pending { self.new.pending ≡ self.old.pending }
+        ensures followed { (pending : Pending) → IsFollowed self.old.snapshot pending self.old.values → IsFollowed self.new.snapshot pending self.new.values }
         ensures kept { OnErr result (self.new.snapshot ≡ self.old.snapshot) }
         ensures stopped { IfErr result (λ fault. (self.new.rows ≡ record self.old.rows { stage = stage.Stopped fault })
             × (fault.row ≡ row_reached self.old.rows)) }
         ensures known { IfErr result (λ fault. fault.kind ≢ RowFaultKind.Read) }
         ensures memory { IsWithinLimits B.limits (with_transaction self.old.snapshot session txn) → IfErr result (λ fault. fault.kind ≡ RowFaultKind.NoMemory) }
     {
+        let struck = strike_finished(&mut self.values, &txn);
+        if struck.is_err() {
+            self.values = None;
+            return Err(self.rows.give_up(RowFaultKind::NoMemory));
+        }
         let told = self.rows.key_hints();
         match self.snapshot.add_told(alloc, session, txn, told) {
             Ok(()) => Ok(()),
-            Err(fault) => Err(self.rows.give_up(RowFaultKind::from(fault))),
+            Err(fault) => {
+                self.values = None;
+                Err(self.rows.give_up(RowFaultKind::from(fault)))
+            }
         }
     }
 

@@ -36,7 +36,7 @@ pub enum Item {
 
 /// How far the reading has come.
 #[derive(Clone, Copy)]
-enum Stage {
+enum RowsStage {
     /// There may be more records.
     Reading,
     /// There are none.
@@ -65,7 +65,7 @@ pub struct Rows<R> {
     progress: Progress,
     /// The session of the last operation.
     session: Option<Name>,
-    stage: Stage,
+    stage: RowsStage,
 }
 
 impl<R: Read + Drop> Rows<R> {
@@ -95,7 +95,7 @@ impl<R: Read + Drop> Rows<R> {
             records: Records::new(alloc, reader, limits),
             progress: Progress::new(alloc, limits),
             session: None,
-            stage: Stage::Reading,
+            stage: RowsStage::Reading,
         })
     }
 
@@ -137,9 +137,9 @@ impl<R: Read + Drop> Rows<R> {
         ensures stage { IfOk result (λ given. self.new.stage ≡ stage_after given) }
     {
         match self.stage {
-            Stage::Reading => {}
-            Stage::Ended => return Ok(Item::End),
-            Stage::Stopped(fault) => return Err(fault),
+            RowsStage::Reading => {}
+            RowsStage::Ended => return Ok(Item::End),
+            RowsStage::Stopped(fault) => return Err(fault),
         }
         match self.advance(alloc) {
             Ok(item) => Ok(item),
@@ -154,7 +154,7 @@ impl<R: Read + Drop> Rows<R> {
     pub(crate) fn has_ended(&self) -> bool
         ensures { result ≡ has_ended self.now }
     {
-        matches!(self.stage, Stage::Ended)
+        matches!(self.stage, RowsStage::Ended)
     }
 
     /// The field at an index, counted from 0, of the record that was read last.
@@ -171,9 +171,9 @@ impl<R: Read + Drop> Rows<R> {
 
     /// Keeps the fault for all later calls.
     fn stop(&mut self, fault: &RowFault)
-        ensures { self.new ≡ record self.old { stage = Stage.Stopped fault.now } }
+        ensures { self.new ≡ record self.old { stage = RowsStage.Stopped fault.now } }
     {
-        self.stage = Stage::Stopped(*fault);
+        self.stage = RowsStage::Stopped(*fault);
     }
 
     /// A fault at the row that was reached.
@@ -189,7 +189,7 @@ impl<R: Read + Drop> Rows<R> {
     /// Gives up at the row that was reached.
     pub(crate) fn give_up(&mut self, kind: RowFaultKind) -> RowFault
         ensures fault { result ≡ record { row = row_reached self.old; kind = kind } }
-        ensures stopped { self.new ≡ record self.old { stage = Stage.Stopped result } }
+        ensures stopped { self.new ≡ record self.old { stage = RowsStage.Stopped result } }
     {
         let fault = self.fault(kind);
         self.stop(&fault);
@@ -198,7 +198,7 @@ impl<R: Read + Drop> Rows<R> {
 
     /// Passes records up to the next item.
     fn advance(&mut self, alloc: Global) -> Result<Item, RowFault>
-        requires { self.old.stage ≡ Stage.Reading }
+        requires { self.old.stage ≡ RowsStage.Reading }
         ensures item { IfOk result (λ given. (limits : Limits) (ahead : Answers) → IsMidway limits R.remaining self.old ahead
             → TakesItem limits R.remaining ahead given self.new) }
         ensures stage { IfOk result (λ given. self.new.stage ≡ stage_after given) }
@@ -221,7 +221,7 @@ impl<R: Read + Drop> Rows<R> {
 
     /// Passes one line that is not an operation, or the end.
     fn pass_line(&mut self, alloc: Global) -> Result<Option<Item>, RowFault>
-        requires { self.old.stage ≡ Stage.Reading }
+        requires { self.old.stage ≡ RowsStage.Reading }
         ensures line { (limits : Limits) (ahead : Answers) → IsMidway limits R.remaining self.old ahead → TakesLine limits R.remaining ahead result self.new }
         ensures stage { IfOk result (λ given. self.new.stage ≡ stage_after_line given) }
         ensures row { IfErr result (λ fault. fault.row ≡ row_reached self.new) }
@@ -276,10 +276,10 @@ impl<R: Read + Drop> Rows<R> {
             → row_reached self.old ≡ length past + 1
             → is_cut fields ≡ false → line_of fields ≡ Ok (line_by turn) → TakesFields limits past fields result self.new }
         ensures records { self.new.records ≡ self.old.records }
-        ensures stage { self.old.stage ≡ Stage.Reading → IfOk result (λ given. self.new.stage ≡ stage_after_line given) }
+        ensures stage { self.old.stage ≡ RowsStage.Reading → IfOk result (λ given. self.new.stage ≡ stage_after_line given) }
         ensures row { IfErr result (λ fault. fault.row ≡ row_reached self.new) }
         ensures read { IfErr result (λ fault. fault.kind ≢ RowFaultKind.Read) }
-        ensures going { self.old.stage ≡ Stage.Reading → OnOk result (self.new.stage ≡ Stage.Reading) }
+        ensures going { self.old.stage ≡ RowsStage.Reading → OnOk result (self.new.stage ≡ RowsStage.Reading) }
     {
         match self.progress.pass(alloc, turn) {
             Ok(item) => Ok(item),
@@ -294,7 +294,7 @@ impl<R: Read + Drop> Rows<R> {
             → fault_at_end past ≡ Some fault) }
         ensures closed { OnOk result ((limits : Limits) (past : List Line) → IsAfter limits past self.old.progress → fault_at_end past ≡ None) }
         ensures end { IfOk result (λ given. given ≡ Some Item.End) }
-        ensures stage { OnOk result (self.new.stage ≡ Stage.Ended) }
+        ensures stage { OnOk result (self.new.stage ≡ RowsStage.Ended) }
         ensures records { self.new.records ≡ self.old.records }
         ensures row { IfErr result (λ fault. fault.row ≡ row_reached self.new) }
         ensures read { IfErr result (λ fault. fault.kind ≢ RowFaultKind.Read) }
@@ -303,7 +303,7 @@ impl<R: Read + Drop> Rows<R> {
         match self.progress.unfinished() {
             Some(session) => Err(self.fault(RowFaultKind::Unfinished { session })),
             None => {
-                self.stage = Stage::Ended;
+                self.stage = RowsStage::Ended;
                 Ok(Some(Item::End))
             }
         }

@@ -1,6 +1,6 @@
 //! What the rule on links asks about a link. Where its walk comes step by step, none of the steps is held: it is
 //! enough to know how many there are and where they lead. Each step takes one query of the graph.
-ghost use Rattle.std.specs.Prelude.{◌≡◌, ◌<◌, ◌++◌, ◌∷◌, ◌↔◌, ℕ, List, [], All, IfOk, IsTrue, OnOk, Some, length};
+ghost use Rattle.std.specs.Prelude.{◌≡◌, ◌<◌, ◌++◌, ◌∷◌, ◌↔◌, ℕ, List, [], All, IfOk, IsTrue, OnErr, OnOk, Some, length};
 ghost use Rattle.tcc_reads.specs.History.{History, count};
 ghost use Rattle.tcc_graph.specs.{Levels.IsAllowed, Levels.IsAllowedWalk, Levels.judged, Links.IsLink, Links.MayContradict, Links.link_cost, Links.link_from};
 ghost use Rattle.tcc_graph.specs.Walks.{IsStep, IsStepBelow, step_from, step_to};
@@ -73,10 +73,12 @@ impl KnownWalk {
         }
     }
 
-    /// One more step. Memory is refused only where 64 bits can't count the steps, and no text has so many.
+    /// One more step. Memory is refused only where 64 bits can't count the steps, and no text has so many. The walk then stays as it
+    /// was.
     pub fn push(&mut self, graph: &LargeGraph, step: &Step) -> Result<(), NoMemory>
-        ensures { OnOk result ((from : ℕ) (walk : List Step) → IsKnownWalk graph.now from walk self.old
+        ensures one { OnOk result ((from : ℕ) (walk : List Step) → IsKnownWalk graph.now from walk self.old
             → IsKnownWalk graph.now from (walk ++ step.now ∷ []) self.new) }
+        ensures refused { OnErr result (self.new ≡ self.old) }
     {
         let Some(steps) = self.steps.checked_add(1) else {
             return Err(NoMemory);

@@ -1,5 +1,5 @@
 //! The rule on the links of a cycle, one link after the other, by what is known of each.
-ghost use Rattle.std.specs.Prelude.{◌≡◌, ◌+◌, ◌<◌, ◌++◌, ◌∷◌, [], ◌↔◌, ℕ, All, IfOk, IsTrue, List, OnOk, Some, get_or, length};
+ghost use Rattle.std.specs.Prelude.{◌≡◌, ◌+◌, ◌<◌, ◌++◌, ◌∷◌, [], ◌↔◌, ℕ, All, IfOk, IsTrue, List, OnErr, OnOk, Some, get_or, length};
 ghost use Rattle.tcc_graph.specs.{Levels.Judged, Levels.judged, Links.cost, declared.link.Link.Link};
 ghost use Rattle.tcc_cert.specs.CycleRules.{IsFirstWrongLink, IsLinkBelow, IsLinkRight};
 ghost use Rattle.tcc_rules.specs.{Known.IsKnownLink, Links.AreJudged, Links.AreSeenTo, Links.ends_or, Links.first_wrong, Links.left_behind};
@@ -177,19 +177,21 @@ impl LinksJudge {
         }
     }
 
-    /// One more link.
+    /// One more link. Where memory is refused, since 64 bits can't count the links, it stays as it was.
     pub fn judge(&mut self, graph: &LargeGraph, level: Level, link: &Link) -> Result<(), NoMemory>
-        ensures { OnOk result ((most : ℕ) (links : List Link) → AreJudged (judged graph.now level) most links self.old
+        ensures one { OnOk result ((most : ℕ) (links : List Link) → AreJudged (judged graph.now level) most links self.old
             → AreJudged (judged graph.now level) most (links ++ link.now ∷ []) self.new) }
+        ensures refused { OnErr result (self.new ≡ self.old) }
     {
         self.judge_known(KnownLink::of(graph, level, link))?;
         Ok(())
     }
 
-    /// One more link, by what is known of it.
+    /// One more link, by what is known of it. Where memory is refused it stays as it was.
     pub fn judge_known(&mut self, known: KnownLink) -> Result<(), NoMemory>
-        ensures { OnOk result ((j : Judged) (most : ℕ) (links : List Link) (link : Link) → IsKnownLink j link known
+        ensures one { OnOk result ((j : Judged) (most : ℕ) (links : List Link) (link : Link) → IsKnownLink j link known
             → AreJudged j most links self.old → AreJudged j most (links ++ link ∷ []) self.new) }
+        ensures refused { OnErr result (self.new ≡ self.old) }
     {
         // No text has so many.
         let Some(number) = self.count.checked_add(1) else {

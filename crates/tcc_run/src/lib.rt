@@ -1,6 +1,10 @@
 //! Runs of `tcc` from bytes to bytes: what `tcc explain` and `tcc check` write for what they read, and the statuses that they end with. And
 //! the answer for what recorders in threads left in a book. Nothing here depends on command lines or files, so other programs can make the
 //! same runs.
+//!
+//! Needs: answers (`tcc_answering`, `tcc_explain`) and what is printed (`tcc_print`).
+//! Must hold: what is written is what a definition says of the records' bytes, at each seal and at the end.
+//! Kept for callers: `audit`, `names`.
 #![tactic(auto)]
 
 mod audit_fault;

@@ -1,5 +1,8 @@
 //! Small snapshots in larger ones: the slice by a cycle has what its links need and nothing else; and what stays when a snapshot
 //! goes on.
+//!
+//! Needs: a cycle of a graph (`tcc_graph`).
+//! Must hold: the slice's cycle is that of the whole, and its reads have their sources.
 #![tactic(auto)]
 
 mod by_label;

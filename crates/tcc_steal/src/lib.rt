@@ -3,6 +3,10 @@
 //! Worker 0 pushes all starts to a deque, from which it and the other workers, its thieves, take one at a time. After all
 //! have ended, worker 0 takes in their results, and searches from each start that none of them returned. Beside this is the
 //! machine of all interleavings of such searches (`World`), and the law that each settles the same cost.
+//!
+//! Needs: searches of one start (`tcc_core`) and the bound that they share (`tcc_bound`).
+//! Must hold: each start is searched once; the cost is the same for every schedule and number of workers.
+//! Kept for callers: `World::run`, `World::seeded`.
 #![tactic(auto)]
 
 mod bounded_search;

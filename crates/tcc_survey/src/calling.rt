@@ -18,7 +18,7 @@ ghost use Rattle.tcc_survey.specs.private.Listed.{AreReadsUpTo};
 ghost use Rattle.tcc_survey.specs.private.Seen.{AreMarks, AreUpToReader, latest_mark};
 ghost use Rattle.tcc_survey.specs.private.Settled.{AreReads, AreWritersIn, IsKnown, IsReading};
 
-use crate::block::Block;
+use crate::block::ClockBlock;
 use crate::called::Called;
 use crate::clock_sweep::{find_least, reversed};
 use crate::external_reads::Reading;
@@ -320,7 +320,7 @@ impl Calling<'_> {
 #[derive(Clone, Copy)]
 struct CallingSweep<'a> {
     level: Level,
-    block: Block<'a>,
+    block: ClockBlock<'a>,
     /// Of each transaction and each session of the block the first number that it reaches.
     firsts: &'a SharedRows,
     /// Of each key where its writers in the block begin and end.
@@ -382,7 +382,7 @@ impl CallingSweep<'_> {
 fn call_block(
     alloc: Global,
     level: Level,
-    block: &Block<'_>,
+    block: &ClockBlock<'_>,
     firsts: &SharedRows,
     called: &mut [Called],
     reads: &[Reading],
@@ -442,7 +442,7 @@ fn call_blocks<P: Progress>(
         if !needed[number] {
             continue;
         }
-        let block = Block {
+        let block = ClockBlock {
             graph,
             owners: &owners,
             from: (number * WIDE) as u32,

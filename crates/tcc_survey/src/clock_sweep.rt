@@ -9,11 +9,11 @@ ghost use Rattle.tcc_graph.specs.{Levels.judged, Orders.IsNumbering};
 ghost use Rattle.tcc_clocks.specs.Clocks.{LeadsOnward};
 ghost use Rattle.tcc_survey.specs.private.Settled.{AreReads, AreFound};
 
-use crate::block::Block;
+use crate::block::ClockBlock;
 use crate::external_reads::Reading;
 use crate::needed::needed_blocks;
 use crate::reverse_clocks::find_firsts;
-use crate::scanning::Sweep;
+use crate::scanning::ReadSweep;
 use std::alloc::{AllocError, Global};
 use tcc_base::Progress;
 use tcc_clocks::{SharedRows, WIDE, find_clocks, owners, previous_of_each, steps_along};
@@ -57,14 +57,14 @@ pub(crate) fn find_least<P: Progress>(
         if !needed[number] {
             continue;
         }
-        let block = Block {
+        let block = ClockBlock {
             graph,
             owners: &owners,
             from: (number * WIDE) as u32,
         };
         find_clocks(&mut clocks, graph, &owners, block.from, order, &steps)?;
         find_firsts(alloc, &mut firsts, &block, &backward)?;
-        let sweep = Sweep {
+        let sweep = ReadSweep {
             level,
             block,
             firsts: &firsts,

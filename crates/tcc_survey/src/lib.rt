@@ -1,5 +1,9 @@
 //! The contradicted reads of a history of any size: reads that another writer of the key contradicts, since it is known to the
 //! reader and is reached from what was read.
+//!
+//! Needs: a graph and clocks along an order (`tcc_order`, `tcc_clocks`).
+//! Must hold: exactly the contradicted reads are found, each with its usual name.
+//! Kept for callers: `survey`.
 #![tactic(auto)]
 
 mod block;

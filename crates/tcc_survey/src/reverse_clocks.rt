@@ -8,7 +8,7 @@ ghost use Rattle.tcc_graph.specs.{Relations.IsSessionPair, Tables.row_of, Orders
 ghost use Rattle.tcc_clocks.specs.{Clocks.AreOwners, declared.latest.TheConstants.WIDE};
 ghost use Rattle.tcc_survey.specs.private.Firsts.{AreFirstNumbers, AreFirsts, AreChildren, IsFirstRow, LeadsBackward};
 
-use crate::block::Block;
+use crate::block::ClockBlock;
 use crate::scanning::count_before;
 use std::alloc::{AllocError, Global};
 use tcc_clocks::{Clock, SharedRows, Side, WIDE, put_row};
@@ -73,7 +73,7 @@ fn first_numbers(owners: &[u32], from: u32) -> Clock
 /// Gives a transaction its row, once those of what comes after it are known.
 fn put_first(
     table: &mut SharedRows,
-    block: &Block<'_>,
+    block: &ClockBlock<'_>,
     children: &[u32],
     a: u32,
 ) -> Result<(), NoMemory>
@@ -105,7 +105,7 @@ fn put_first(
 pub(crate) fn find_firsts(
     alloc: Global,
     table: &mut SharedRows,
-    block: &Block<'_>,
+    block: &ClockBlock<'_>,
     backward: &[u32],
 ) -> Result<(), NoMemory>
     requires numbered { IsBySession block.now.graph.now.entries }

@@ -9,7 +9,7 @@ ghost use Rattle.tcc_graph.specs.{Keys.key_at, Levels.judged, declared.level.Lev
 ghost use Rattle.tcc_clocks.specs.declared.latest.TheConstants.{WIDE};
 ghost use Rattle.tcc_survey.specs.private.Settled.{IsLeastOf, IsBlock, MayHit, IsWithin, IsKnown, IsHitOf, IsHitOnLane, IsOwnHit, AreWritersIn, IsReading, IsLeastBefore, AreReads, AreSettled, AreSpansIn};
 
-use crate::block::Block;
+use crate::block::ClockBlock;
 use crate::external_reads::Reading;
 use std::alloc::Global;
 use tcc_clocks::{SharedRows, WIDE, between, block_bounds, find_spans};
@@ -45,7 +45,7 @@ pub(crate) fn is_among(numbers: &[u32], b: u32) -> bool
 #[derive(Clone, Copy)]
 struct Scan<'a> {
     level: Level,
-    block: Block<'a>,
+    block: ClockBlock<'a>,
     /// Of each session of the block the first number that the source reaches.
     first: &'a [u32],
     /// Of each session of the block the last number that reaches the reader.
@@ -216,16 +216,16 @@ impl Scan<'_> {
 
 /// A block of sessions at a level, with clocks both ways.
 #[derive(Clone, Copy)]
-pub(crate) struct Sweep<'a> {
+pub(crate) struct ReadSweep<'a> {
     pub level: Level,
-    pub block: Block<'a>,
+    pub block: ClockBlock<'a>,
     /// Of each transaction and each session of the block the first number that it reaches.
     pub firsts: &'a SharedRows,
     /// Of each transaction and each session of the block the last number that reaches it.
     pub clocks: &'a SharedRows,
 }
 
-impl Sweep<'_> {
+impl ReadSweep<'_> {
     /// Whether no writer of the block can be the least that contradicts a read: one of an earlier block is, or the reader knows no
     /// more of the block than its source does.
     fn is_settled(&self, reading: Reading, known: u32) -> bool

@@ -1,5 +1,8 @@
 //! Runs of `tcc survey` from bytes to bytes: what is written of the contradicted reads of the records, and the statuses that the
 //! runs end with. Nothing here knows about command lines or files.
+//!
+//! Needs: a survey (`tcc_survey`) and what is printed (`tcc_print`).
+//! Must hold: what is written is what a definition says of the records' bytes.
 #![tactic(auto)]
 
 mod counting;

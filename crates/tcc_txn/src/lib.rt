@@ -1,4 +1,7 @@
 //! What sessions recorded: names, operations, transactions and snapshots.
+//!
+//! Needs: nothing of the repository.
+//! Must hold: a snapshot within its limits; each packed form is seen as the plain one, and names are compared here and nowhere above.
 #![tactic(auto)]
 
 mod alike;

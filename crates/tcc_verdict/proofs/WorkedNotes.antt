@@ -18,5 +18,5 @@ bad_value = rw (decimal_digit 2 (lit< tt)) refl
 
 -- at the end of the input no record
 unfinished : stop_note Small (record { row = 3; kind = Unfinished (codes "a") }) (record_at 3 three)
-    ≡ codes "row 3: the input ends: expected commit or abort of the session\n"
+    ≡ codes "row 3: the input ends: expected commit, abort or unknown of the session\n"
 unfinished = rw (decimal_digit 3 (lit< tt)) refl

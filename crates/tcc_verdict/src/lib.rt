@@ -1,4 +1,7 @@
 //! The runs of `tcc check`: from the bytes of a history and of a certificate to the verdict and the status.
+//!
+//! Needs: a checker and a judge (`tcc_check`, `tcc_judge`), and what is printed (`tcc_print`).
+//! Must hold: status and text are those of one verdict.
 #![tactic(auto)]
 
 mod check;

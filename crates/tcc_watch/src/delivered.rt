@@ -10,7 +10,7 @@ use crate::at::At;
 use crate::linking::link_read;
 use crate::places::Places;
 use crate::tables::{Tables, parents};
-use crate::writers::{Writers, note_writes};
+use crate::writers::{WriterLists, note_writes};
 use std::alloc::Global;
 use tcc_bits::Row;
 use tcc_txn::{Name, NoMemory};
@@ -19,7 +19,7 @@ use tcc_txn::{Name, NoMemory};
 #[derive(Drop)]
 pub(crate) struct Delivered {
     pub tables: Tables,
-    pub writers: Writers,
+    pub writers: WriterLists,
 }
 
 /// Makes the derived links that a read brings; false where one of them closes a cycle.
@@ -28,7 +28,7 @@ fn link_key(
     closure: &mut [Places],
     stands: &[At],
     members: &[Row<u32>],
-    writers: &Writers,
+    writers: &WriterLists,
     clock: &Places,
     read: &(Name, u32),
 ) -> Result<bool, NoMemory>
@@ -53,7 +53,7 @@ fn link_reads(
     closure: &mut [Places],
     stands: &[At],
     members: &[Row<u32>],
-    writers: &Writers,
+    writers: &WriterLists,
     clock: &Places,
     reads: &[(Name, u32)],
 ) -> Result<bool, NoMemory>
@@ -91,7 +91,7 @@ impl Delivered {
         };
         Ok(Delivered {
             tables,
-            writers: Writers::new(alloc),
+            writers: WriterLists::new(alloc),
         })
     }
 

@@ -1,5 +1,8 @@
 //! Answers while a history grows. Transactions come one after the other, each after those that it needs. Rows keep what has to come
 //! before what.
+//!
+//! Needs: snapshots that grow, and orders (`tcc_slices`, `tcc_order`).
+//! Must hold: each answer is that of all transactions so far.
 #![tactic(auto)]
 
 mod arrivals;

@@ -114,12 +114,12 @@ fn add_at(
 
 /// The writers of each key but `init`, by the number of the key.
 #[derive(Drop)]
-pub(crate) struct Writers {
+pub(crate) struct WriterLists {
     keys: SymbolTable,
     writers: Vec<KeyWriters>,
 }
 
-impl Model for Writers {
+impl Model for WriterLists {
     ghost use Rattle.tcc_watch.specs.private.Writers.{AreWritersOf, WriterMap};
 
     ghost Value = { WriterMap };
@@ -129,12 +129,12 @@ impl Model for Writers {
     ghost invariant = { λ w. AreWritersOf w.keys w.writers.items };
 }
 
-impl Writers {
+impl WriterLists {
     /// No keys.
-    pub(crate) fn new(alloc: Global) -> Writers
+    pub(crate) fn new(alloc: Global) -> WriterLists
         ensures { (x : List ℕ) → lists_in result x ≡ [] }
     {
-        Writers {
+        WriterLists {
             keys: SymbolTable::new(alloc),
             writers: Vec::new(alloc),
         }
@@ -163,7 +163,7 @@ impl Writers {
 /// A transaction writes these keys.
 pub(crate) fn note_writes(
     alloc: Global,
-    writers: &mut Writers,
+    writers: &mut WriterLists,
     at: At,
     number: u32,
     keys: &[Name],

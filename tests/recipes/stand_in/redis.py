@@ -83,6 +83,9 @@ class Redis:
         REPLICAS.add(self.port)
         return {"master_link_status": "up"}
 
+    def close(self) -> None:
+        pass
+
     def pipeline(self, transaction: bool) -> Steps:
         return Steps(self.port)
 

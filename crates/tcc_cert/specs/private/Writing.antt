@@ -4,21 +4,21 @@ use Rattle.tcc_cert.specs.Given.{Sends}
 use Rattle.tcc_cert.specs.Texts.{line_text}
 use Rattle.tcc_cert.specs.declared.cycle_writer.CycleTable.{CycleTable}
 use Rattle.tcc_cert.specs.declared.cycle_writer.CycleTable.TheVariants as table
-use Rattle.tcc_cert.specs.declared.cycle_writer.Stage.TheVariants.{Near, Far, Failed}
-use Rattle.tcc_cert.specs.declared.cycle_writer.Stage.{Stage}
+use Rattle.tcc_cert.specs.declared.cycle_writer.TableStage.TheVariants.{Near, Far, Failed}
+use Rattle.tcc_cert.specs.declared.cycle_writer.TableStage.{TableStage}
 
 -- the line that has to be written before a row of `far` or the end
-abbrev pub far_mark : Stage → List ℕ
+abbrev pub far_mark : TableStage → List ℕ
 far_mark Near = line_text (codes "far" ∷ [])
 far_mark Far = []
 far_mark Failed = []
 
 -- the line that has to be written before a row of a table, and where the writing is then
-abbrev pub mark_before : CycleTable → Stage → List ℕ
+abbrev pub mark_before : CycleTable → TableStage → List ℕ
 mark_before table.Near stage = []
 mark_before table.Far stage = far_mark stage
 
-abbrev pub stage_behind : CycleTable → Stage → Stage
+abbrev pub stage_behind : CycleTable → TableStage → TableStage
 stage_behind table.Near stage = stage
 stage_behind table.Far stage = Far
 

@@ -37,13 +37,15 @@ impl Held {
 }
 
 impl TakesLinks for Held {
-    ghost ready = { λ held h. held.links.items ≡ [] };
+    ghost ready = { λ held h. Unit {0} };
 
     ghost took = { λ held h sizes links. held.links.items ≡ links };
 
     ghost takes = { λ held h sizes links head walk. (held.links.items ≡ links) × (held.head ≡ Some head) × (held.steps.items ≡ walk) };
 
-    fn start(&mut self, _sizes: LinksSizes) {}
+    fn start(&mut self, _sizes: LinksSizes) {
+        self.links = Vec::new(self.alloc);
+    }
 
     fn begin(&mut self, head: Link) -> Result<(), NoMemory> {
         self.head = Some(head);

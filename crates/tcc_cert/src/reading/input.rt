@@ -51,7 +51,6 @@ fn line_length(bytes: &[u8], searched: usize) -> usize
 }
 
 impl<R: Read> Input<R> {
-    ghost use Rattle.tcc_cert.specs.private.Slack.{KeepsSlack, slack};
     ghost use Rattle.tcc_cert.specs.{InputBytes.HasFailed, InputBytes.IsAt, Reading.Position, Ranges.ranges_at};
     ghost use Rattle.tcc_cert.specs.private.Inputs.{Ends, FindsLine, AsBefore, TakesLine, line_in};
 
@@ -94,19 +93,6 @@ impl<R: Read> Input<R> {
         }
     }
 
-    /// The reader gives at most `most` bytes, counted from the first that waits. To be asked for more is a failure.
-    pub(crate) fn limit(&mut self, most: usize)
-        ensures same { (at : Position) → IsAt R.remaining self.old at → IsAt R.remaining self.new at }
-        ensures works { AsBefore self.old self.new }
-        ensures first { self.new.passed ≡ self.old.passed }
-        ensures number { self.new.number ≡ self.old.number }
-        ensures left { self.new.source.left ≡ most - length (window_bytes self.new.window) }
-        ensures held { length (window_bytes self.new.window) ≤ WINDOW_BYTES }
-    {
-        let held = self.window.as_slice().len();
-        self.source.limit(most.saturating_sub(held));
-    }
-
     /// Reads until the next line, of at most `most` bytes, is held, and returns how long it is.
     pub(crate) fn find_line(&mut self, most: usize) -> Result<usize, CertFaultKind>
         requires passed { self.old.passed ≡ 0 }
@@ -116,7 +102,6 @@ impl<R: Read> Input<R> {
         ensures passed { self.new.passed ≡ 0 }
         ensures number { self.new.number ≡ self.old.number }
         ensures works { OnOk result (AsBefore self.old self.new) }
-        ensures slack { OnOk result (KeepsSlack R.remaining self.old.source self.new.source) }
         ensures held { IfOk result (λ length_found. length_found < length (window_bytes self.new.window)) }
     {
         let mut searched = 0;
@@ -143,7 +128,6 @@ impl<R: Read> Input<R> {
     pub(crate) fn next(&mut self, most: usize) -> Result<u64, CertFault>
         requires { most < WINDOW_BYTES }
         ensures works { OnOk result (AsBefore self.old self.new) }
-        ensures slack { OnOk result (KeepsSlack R.remaining self.old.source self.new.source) }
         ensures line { (at : Position) → IsAt R.remaining self.old at → TakesLine R.remaining most at result self.new }
     {
         self.window.pass(self.passed);
@@ -168,7 +152,6 @@ impl<R: Read> Input<R> {
     /// Takes the next line, one after the first. The text's scale says how long it may be.
     pub(crate) fn next_of(&mut self, scale: TextFormat) -> Result<u64, CertFault>
         ensures works { OnOk result (AsBefore self.old self.new) }
-        ensures slack { OnOk result (KeepsSlack R.remaining self.old.source self.new.source) }
         ensures line { (at : Position) → IsAt R.remaining self.old at → TakesLine R.remaining (ranges_at scale).line_bytes at result self.new }
     {
         self.next(ranges_at(scale).line_bytes)
@@ -177,7 +160,6 @@ impl<R: Read> Input<R> {
     /// Nothing comes after the last line.
     pub(crate) fn end(&mut self) -> Result<(), CertFault>
         ensures works { OnOk result (AsBefore self.old self.new) }
-        ensures spare { OnOk result (0 < slack R.remaining self.old.source) }
         ensures ends { (at : Position) → IsAt R.remaining self.old at → Ends at result self.new }
     {
         self.window.pass(self.passed);

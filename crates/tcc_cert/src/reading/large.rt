@@ -1,6 +1,6 @@
 //! How the text of version 3 is read.
 ghost use Rattle.std.specs.Prelude.{◌≡◌, IfSome, OnOk, is_ok};
-ghost use Rattle.tcc_cert.specs.{private.Inputs.AsBefore, private.Slack.KeepsSlack, private.Inputs.Gives, private.Inputs.GivesSuch, InputBytes.IsAt, Outcomes.IsLargeReading, Taken.IsClaimTaken, declared.ranges.TheConstants.MAX_HEADER_BYTES};
+ghost use Rattle.tcc_cert.specs.{private.Inputs.AsBefore, private.Inputs.Gives, private.Inputs.GivesSuch, InputBytes.IsAt, Outcomes.IsLargeReading, Taken.IsClaimTaken, declared.ranges.TheConstants.MAX_HEADER_BYTES};
 ghost use Rattle.tcc_cert.specs.Reading.{Position, next};
 ghost use Rattle.tcc_reads.specs.History.{History};
 ghost use Rattle.tcc_cert.specs.LargeReading.{large_behind_header, large_certificate_at, large_header_line, least_at, links_claim_at, runs_at};
@@ -25,7 +25,6 @@ use tcc_graph::Level;
 /// `count` runs, and the last line.
 fn runs<R: Read>(alloc: Global, input: &mut Input<R>, count: u32) -> Result<Runs, CertFault>
     ensures works { OnOk result (AsBefore input.old input.new) }
-    ensures slack { OnOk result (KeepsSlack R.remaining input.old.source input.new.source) }
     ensures gives { (at : Position) → IsAt R.remaining input.old at → Gives R.remaining at (runs_at count at) result input.new }
 {
     let runs = entries::<Run, R>(alloc, input, TextFormat::Large, count)?;
@@ -40,7 +39,6 @@ fn least<R: Read>(
     tail: FooterLine,
 ) -> Result<Option<Runs>, CertFault>
     ensures works { OnOk result (AsBefore input.old input.new) }
-    ensures slack { OnOk result (KeepsSlack R.remaining input.old.source input.new.source) }
     ensures gives { (at : Position) → IsAt R.remaining input.old at → Gives R.remaining at (least_at tail at) result input.new }
 {
     match tail {
@@ -57,9 +55,9 @@ fn cycle<S: TakesLinks, R: Read>(
     taker: &mut S,
 ) -> Result<LargeHead, CertFault>
     ensures works { OnOk result (AsBefore input.old input.new) }
-    ensures slack { OnOk result (KeepsSlack R.remaining input.old.source input.new.source) }
     ensures gives { (at : Position) (h : History) → IsAt R.remaining input.old at → S.ready taker.old h
         → GivesSuch R.remaining at (links_claim_at sizes.level sizes.transactions sizes.links sizes.cost at) (IsClaimTaken (S.took taker.new h)) result input.new }
+    ensures ready { (h : History) → S.ready taker.old h → S.ready taker.new h }
 {
     taker.start(sizes);
     give_links(alloc, input, sizes.links, taker)?;
@@ -76,9 +74,9 @@ fn claim<S: TakesLinks, R: Read>(
     taker: &mut S,
 ) -> Result<LargeHead, CertFault>
     ensures works { OnOk result (AsBefore input.old input.new) }
-    ensures slack { OnOk result (KeepsSlack R.remaining input.old.source input.new.source) }
     ensures gives { (at : Position) (h : History) → IsAt R.remaining input.old at → S.ready taker.old h
         → GivesSuch R.remaining at (large_behind_header (level, at)) (IsClaimTaken (S.took taker.new h)) result input.new }
+    ensures ready { (h : History) → S.ready taker.old h → S.ready taker.new h }
 {
     match next_line::<Sizes<LargeOrderSizes>, R>(alloc, input, TextFormat::Large)? {
         Sizes::Order(sizes) => {
@@ -125,7 +123,6 @@ pub(crate) fn is_header(line: &[u8]) -> bool
 /// The first line.
 fn header<R: Read>(input: &mut Input<R>) -> Result<Level, CertFault>
     ensures works { OnOk result (AsBefore input.old input.new) }
-    ensures slack { OnOk result (KeepsSlack R.remaining input.old.source input.new.source) }
     ensures gives { (at : Position) → IsAt R.remaining input.old at → Gives R.remaining at (next MAX_HEADER_BYTES large_header_line at) result input.new }
 {
     let line = input.next(MAX_HEADER_BYTES)?;
@@ -139,9 +136,9 @@ pub(crate) fn certificate<S: TakesLinks, R: Read>(
     taker: &mut S,
 ) -> Result<LargeHead, CertFault>
     ensures works { OnOk result (AsBefore input.old input.new) }
-    ensures slack { OnOk result (KeepsSlack R.remaining input.old.source input.new.source) }
     ensures gives { (at : Position) (h : History) → IsAt R.remaining input.old at → S.ready taker.old h
         → GivesSuch R.remaining at (large_certificate_at at) (IsClaimTaken (S.took taker.new h)) result input.new }
+    ensures ready { (h : History) → S.ready taker.old h → S.ready taker.new h }
 {
     let level = header(input)?;
     claim(alloc, input, level, taker)
@@ -149,8 +146,8 @@ pub(crate) fn certificate<S: TakesLinks, R: Read>(
 
 /// Reads the certificate of version 3 whose text the reader gives, with nothing after it, or returns the first line with a
 /// fault. The first line has at most 8,191 bytes and a line feed, each other at most 127. Where the reader fails, the fault
-/// is `Read` at the line that was wanted then, unless a line before it has another. The same holds where the text goes on
-/// past 1 GiB. It is for callers that want the certificate as a value. To go through its links once, use a `LargeReader`.
+/// is `Read` at the line that was wanted then, unless a line before it has another. A text may have any number of bytes. It
+/// is for callers that want the certificate as a value. To go through its links once, use a `LargeReader`.
 pub fn read_large<R: Read + Drop>(alloc: Global, reader: R) -> Result<LargeCertificate, CertFault>
     ensures { IfSome (R.remaining reader) (λ bytes. IsLargeReading bytes result) }
 {

@@ -1,22 +1,18 @@
 //! A text of version 3, whose links are taken one by one or held.
-ghost use Rattle.std.specs.Prelude.{◌≡◌, ◌+◌, length};
-ghost use Rattle.tcc_cert.specs.{WindowBytes.window_bytes, declared.version_3.TheConstants.V3_MAX_TEXT_BYTES};
+ghost use Rattle.std.specs.Prelude.{◌≡◌};
 
 use super::held::Held;
 use super::input::Input;
 use super::large::certificate;
-use crate::version_3::V3_MAX_TEXT_BYTES;
 use crate::{CertFault, LargeCertificate, LargeHead, LinksClaim, LinksHead, TakesLinks};
 use std::alloc::Global;
 use std::io::Read;
 
-/// A text of version 3. Its reader gives at most one byte more than such a text may have, so a text whose end is met is not
-/// too long.
+/// A text of version 3, of any length.
 #[derive(Drop)]
 pub struct LargeReader<R> {
     input: Input<R>,
     ghost first: { input.passed ≡ 0 },
-    ghost limited: { input.source.left + length (window_bytes input.window) ≡ V3_MAX_TEXT_BYTES + 1 },
 }
 
 impl<R: Read + Drop> LargeReader<R> {
@@ -30,8 +26,6 @@ impl<R: Read + Drop> LargeReader<R> {
         ensures same { (at : Position) → IsAt R.remaining input at → IsAt R.remaining result.input at }
         ensures works { AsBefore input result.input }
     {
-        let mut input = input;
-        input.limit(V3_MAX_TEXT_BYTES + 1);
         LargeReader { input }
     }
 
@@ -54,9 +48,10 @@ impl<R: Read + Drop> LargeReader<R> {
         }
     }
 
-    /// The same for a text whose links are taken one by one; none of them is held.
+    /// The same for a text whose links are taken one by one; none of them is held. Afterwards the taker is ready for another one.
     pub fn take<S: TakesLinks>(self, alloc: Global, taker: &mut S) -> Result<LargeHead, CertFault>
-        ensures { (bytes : List ℕ) (h : History) → IsLargeAt R.remaining self bytes → S.ready taker.old h → IsLargeTaken bytes (S.took taker.new h) result }
+        ensures taken { (bytes : List ℕ) (h : History) → IsLargeAt R.remaining self bytes → S.ready taker.old h → IsLargeTaken bytes (S.took taker.new h) result }
+        ensures ready { (h : History) → S.ready taker.old h → S.ready taker.new h }
     {
         let LargeReader { mut input } = self;
         let claim = certificate(alloc, &mut input, taker)?;

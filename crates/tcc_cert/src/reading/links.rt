@@ -1,6 +1,6 @@
 //! The lines of links and of the steps of their walks.
 ghost use Rattle.std.specs.Prelude.{◌≡◌, OnOk};
-ghost use Rattle.tcc_cert.specs.{private.Inputs.AsBefore, private.Slack.KeepsSlack, private.Inputs.Gives, InputBytes.IsAt};
+ghost use Rattle.tcc_cert.specs.{private.Inputs.AsBefore, private.Inputs.Gives, InputBytes.IsAt};
 ghost use Rattle.tcc_cert.specs.Reading.{Position, link_at, repeated, with_walk};
 
 use super::forms::HeaderLine;
@@ -21,7 +21,6 @@ pub(crate) fn entries<E: Entry, R: Read>(
     count: u32,
 ) -> Result<ListOf<E>, CertFault>
     ensures works { OnOk result (AsBefore input.old input.new) }
-    ensures slack { OnOk result (KeepsSlack R.remaining input.old.source input.new.source) }
     ensures gives { (at : Position) → IsAt R.remaining input.old at → Gives R.remaining at (repeated (E.entry scale) count at) result input.new }
 {
     let mut items = Vec::new(alloc);
@@ -65,7 +64,6 @@ pub(crate) fn link<R: Read>(
     scale: TextFormat,
 ) -> Result<Link, CertFault>
     ensures works { OnOk result (AsBefore input.old input.new) }
-    ensures slack { OnOk result (KeepsSlack R.remaining input.old.source input.new.source) }
     ensures gives { (at : Position) → IsAt R.remaining input.old at → Gives R.remaining at (link_at scale at) result input.new }
 {
     let head = next_line::<HeaderLine, R>(alloc, input, scale)?;

@@ -4,7 +4,7 @@ ghost use Rattle.tcc_cert.specs.declared.part.Part.TheVariants as part;
 ghost use Rattle.tcc_cert.specs.Parts.{Parts, parts_read};
 
 use super::input::Input;
-use super::stages::{ExpectedPart, Stage, step};
+use super::stages::{ExpectedPart, ReadingStage, step};
 use crate::{CertFault, CertFaultKind, Part};
 use std::alloc::Global;
 use std::io::Read;
@@ -15,7 +15,7 @@ use std::io::Read;
 #[derive(Drop)]
 pub struct CertReader<R> {
     input: Input<R>,
-    stage: Stage,
+    stage: ReadingStage,
 }
 
 impl<R: Read> CertReader<R> {
@@ -33,11 +33,11 @@ impl<R: Read> CertReader<R> {
     /// The parts of what is in the input, from its first line on.
     pub(crate) fn over(input: Input<R>) -> CertReader<R>
         ensures input { result.input ≡ input }
-        ensures stage { result.stage ≡ Stage.Going ExpectedPart.Whole }
+        ensures stage { result.stage ≡ ReadingStage.Going ExpectedPart.Whole }
     {
         CertReader {
             input,
-            stage: Stage::Going(ExpectedPart::Whole),
+            stage: ReadingStage::Going(ExpectedPart::Whole),
         }
     }
 
@@ -64,9 +64,9 @@ impl<R: Read> CertReader<R> {
         ensures left { IfOk result (λ given. (is_new self.old ≡ true) ⊎ ((given ≡ part.End) ⊎ (rows_left self.new < rows_left self.old))) }
     {
         let coming = match self.stage {
-            Stage::Going(coming) => coming,
-            Stage::Ended => return Ok(Part::End),
-            Stage::Stopped(fault) => return Err(fault),
+            ReadingStage::Going(coming) => coming,
+            ReadingStage::Ended => return Ok(Part::End),
+            ReadingStage::Stopped(fault) => return Err(fault),
         };
         match step(alloc, &mut self.input, coming) {
             Ok((part, stage)) => {
@@ -74,7 +74,7 @@ impl<R: Read> CertReader<R> {
                 Ok(part)
             }
             Err(fault) => {
-                self.stage = Stage::Stopped(fault);
+                self.stage = ReadingStage::Stopped(fault);
                 Err(fault)
             }
         }

@@ -49,7 +49,7 @@ pub(crate) enum ExpectedPart {
 
 /// How far the reading has come.
 #[derive(Clone, Copy)]
-pub(crate) enum Stage {
+pub(crate) enum ReadingStage {
     /// Something is still to be read.
     Going(ExpectedPart),
     /// There are no more parts.
@@ -59,7 +59,7 @@ pub(crate) enum Stage {
 }
 
 /// A part, and what comes after it, or the first fault.
-pub(crate) type NextPart = Result<(Part, Stage), CertFault>;
+pub(crate) type NextPart = Result<(Part, ReadingStage), CertFault>;
 
 /// The last line, and nothing after it.
 fn end<R: Read>(alloc: Global, input: &mut Input<R>, version: Version) -> NextPart
@@ -69,7 +69,7 @@ fn end<R: Read>(alloc: Global, input: &mut Input<R>, version: Version) -> NextPa
 {
     mark(alloc, input, TextFormat::Small(version), b"end")?;
     input.end()?;
-    Ok((Part::End, Stage::Ended))
+    Ok((Part::End, ReadingStage::Ended))
 }
 
 /// The next row of a table that has one.
@@ -91,7 +91,7 @@ fn table_row<R: Read>(alloc: Global, input: &mut Input<R>, left: RowsLeft) -> Ne
         many: many - 1,
         ..left
     });
-    Ok((table.part(numbers), Stage::Going(coming)))
+    Ok((table.part(numbers), ReadingStage::Going(coming)))
 }
 
 /// What comes after the last row of a table: for `near` the line `far`, and its first row.
@@ -155,7 +155,7 @@ fn marked<R: Read>(
 /// What comes after the order of a claim.
 fn behind_order(version: Version, level: Level, transactions: u32, sessions: u32) -> ExpectedPart
     ensures behind { (at : Position) → IsBehind result at (order_rest version level transactions sessions at) }
-    ensures begun { IsBegun (Stage.Going result) }
+    ensures begun { IsBegun (ReadingStage.Going result) }
 {
     let table = TableShape::Clocks {
         transactions,
@@ -198,7 +198,7 @@ fn order<R: Read>(
         order,
         sessions: sizes.sessions,
     };
-    Ok((Part::Order(head), Stage::Going(coming)))
+    Ok((Part::Order(head), ReadingStage::Going(coming)))
 }
 
 /// The next link of a cycle that has one.
@@ -214,7 +214,7 @@ fn next_link<R: Read>(alloc: Global, input: &mut Input<R>, left: LinksLeft) -> N
         many: left.many - 1,
         ..left
     });
-    Ok((Part::Link(one), Stage::Going(coming)))
+    Ok((Part::Link(one), ReadingStage::Going(coming)))
 }
 
 /// The next link of a cycle, or what comes after the last.
@@ -254,7 +254,10 @@ fn claim<R: Read>(alloc: Global, input: &mut Input<R>, version: Version, level: 
                 transactions: sizes.transactions,
                 many: sizes.links,
             };
-            Ok((Part::Cycle(head), Stage::Going(ExpectedPart::Links(left))))
+            Ok((
+                Part::Cycle(head),
+                ReadingStage::Going(ExpectedPart::Links(left)),
+            ))
         }
     }
 }

@@ -2,7 +2,7 @@
 ghost use Rattle.std.specs.Prelude.{◌≡◌, ◌++◌, ◌∷◌, [], List, OnOk};
 ghost use Rattle.tcc_reads.specs.History.{History};
 ghost use Rattle.tcc_graph.specs.declared.link.Link.{Link};
-ghost use Rattle.tcc_cert.specs.{private.Inputs.AsBefore, private.Slack.KeepsSlack, private.Inputs.GivesSuch, InputBytes.IsAt};
+ghost use Rattle.tcc_cert.specs.{private.Inputs.AsBefore, private.Inputs.GivesSuch, InputBytes.IsAt};
 ghost use Rattle.tcc_cert.specs.Reading.{Position, head_line, link_at, repeated, step_line, words};
 ghost use Rattle.tcc_cert.specs.declared.large.LinksSizes.{LinksSizes};
 ghost use Rattle.tcc_cert.specs.declared.ranges.TextFormat.TheVariants.{Large};
@@ -24,9 +24,9 @@ fn give_walk<S: TakesLinks, R: Read>(
     taker: &mut S,
 ) -> Result<(), CertFault>
     ensures works { OnOk result (AsBefore input.old input.new) }
-    ensures slack { OnOk result (KeepsSlack R.remaining input.old.source input.new.source) }
     ensures gives { (at : Position) (h : History) (sizes : LinksSizes) (links : List Link) (head : Link) → IsAt R.remaining input.old at → S.takes taker.old h sizes links head []
         → GivesSuch R.remaining at (repeated (words Large (step_line Large)) count at) (λ walk _. S.takes taker.new h sizes links head walk) result input.new }
+    ensures ready { (h : History) → S.ready taker.old h → S.ready taker.new h }
 {
     'steps: for _ in 0..count {
         let one = next_line::<Step, R>(alloc, input, TextFormat::Large)?;
@@ -45,10 +45,10 @@ fn begin_link<S: TakesLinks, R: Read>(
     taker: &mut S,
 ) -> Result<u32, CertFault>
     ensures works { OnOk result (AsBefore input.old input.new) }
-    ensures slack { OnOk result (KeepsSlack R.remaining input.old.source input.new.source) }
     ensures gives { (at : Position) (h : History) (sizes : LinksSizes) (links : List Link) → IsAt R.remaining input.old at → S.took taker.old h sizes links
         → GivesSuch R.remaining at (words Large (head_line Large) at)
         (λ head steps. (steps ≡ head.steps) × S.takes taker.new h sizes links head.link []) result input.new }
+    ensures ready { (h : History) → S.ready taker.old h → S.ready taker.new h }
 {
     let head = next_line::<HeaderLine, R>(alloc, input, TextFormat::Large)?;
     let steps = head.steps;
@@ -65,9 +65,9 @@ fn give_link<S: TakesLinks, R: Read>(
     taker: &mut S,
 ) -> Result<(), CertFault>
     ensures works { OnOk result (AsBefore input.old input.new) }
-    ensures slack { OnOk result (KeepsSlack R.remaining input.old.source input.new.source) }
     ensures gives { (at : Position) (h : History) (sizes : LinksSizes) (links : List Link) → IsAt R.remaining input.old at → S.took taker.old h sizes links
         → GivesSuch R.remaining at (link_at Large at) (λ link _. S.took taker.new h sizes (links ++ link ∷ [])) result input.new }
+    ensures ready { (h : History) → S.ready taker.old h → S.ready taker.new h }
 {
     let steps = begin_link(alloc, input, taker)?;
     give_walk(alloc, input, steps, taker)?;
@@ -85,9 +85,9 @@ pub(crate) fn give_links<S: TakesLinks, R: Read>(
     taker: &mut S,
 ) -> Result<(), CertFault>
     ensures works { OnOk result (AsBefore input.old input.new) }
-    ensures slack { OnOk result (KeepsSlack R.remaining input.old.source input.new.source) }
     ensures gives { (at : Position) (h : History) (sizes : LinksSizes) → IsAt R.remaining input.old at → S.took taker.old h sizes []
         → GivesSuch R.remaining at (repeated (link_at Large) count at) (λ links _. S.took taker.new h sizes links) result input.new }
+    ensures ready { (h : History) → S.ready taker.old h → S.ready taker.new h }
 {
     'links: for _ in 0..count {
         give_link(alloc, input, taker)?;

@@ -21,7 +21,7 @@ pub(crate) struct Window {
 }
 
 impl Window {
-    ghost use Rattle.tcc_cert.specs.{WindowBytes.window_bytes, private.Slack.KeepsSlack, private.Slack.slack};
+    ghost use Rattle.tcc_cert.specs.WindowBytes.{window_bytes};
 
     pub(crate) fn new() -> Window
         ensures { window_bytes result ≡ [] }
@@ -69,8 +69,6 @@ impl Window {
         ensures end { IfOk result (λ count. count ≡ 0 → IsAtEnd (R.remaining source.new.reader)) }
         ensures works { OnOk result (source.new.failed ≡ source.old.failed) }
         ensures failed { OnErr result (IsTrue source.new.failed) }
-        ensures slack { OnOk result (KeepsSlack R.remaining source.old source.new) }
-        ensures spare { IfOk result (λ count. count ≡ 0 → 0 < slack R.remaining source.new) }
     {
         self.gather();
         let end = self.end;

@@ -1,6 +1,6 @@
 //! The lines of words, each judged by the form of what it has to say.
 ghost use Rattle.std.specs.Prelude.{◌≡◌, map, IfOk, OnOk, Result};
-ghost use Rattle.tcc_cert.specs.{private.Inputs.AsBefore, private.Slack.KeepsSlack, private.Inputs.Gives, InputBytes.IsAt, private.Showing.Shows};
+ghost use Rattle.tcc_cert.specs.{private.Inputs.AsBefore, private.Inputs.Gives, InputBytes.IsAt, private.Showing.Shows};
 ghost use Rattle.tcc_cert.specs.Reading.{Position, words, words_of};
 
 use super::input::{Input, at_line};
@@ -26,7 +26,7 @@ pub(crate) trait WordLine: Drop {
 /// What one line says, or some that belong together.
 pub(crate) trait Entry: Drop {
     ghost use Rattle.std.specs.Prelude.{OnOk};
-    ghost use Rattle.tcc_cert.specs.{declared.ranges.TextFormat.TextFormat, InputBytes.IsAt, Reading.Position, Reading.Reads, private.Inputs.AsBefore, private.Slack.KeepsSlack, private.Inputs.Gives, private.Onward.IsOnward};
+    ghost use Rattle.tcc_cert.specs.{declared.ranges.TextFormat.TextFormat, InputBytes.IsAt, Reading.Position, Reading.Reads, private.Inputs.AsBefore, private.Inputs.Gives, private.Onward.IsOnward};
 
     ghost entry: { TextFormat → Position → Reads Self };
 
@@ -37,7 +37,6 @@ pub(crate) trait Entry: Drop {
         scale: TextFormat,
     ) -> Result<Self, CertFault>
         ensures works { OnOk result (AsBefore input.old input.new) }
-        ensures slack { OnOk result (KeepsSlack R.remaining input.old.source input.new.source) }
         ensures gives { (at : Position) → IsAt R.remaining input.old at → Gives R.remaining at (entry scale at) result input.new }
         ensures onward { (at : Position) → IsOnward at (entry scale at) };
 }
@@ -67,7 +66,6 @@ pub(crate) fn next_line<L: WordLine, R: Read>(
     scale: TextFormat,
 ) -> Result<L, CertFault>
     ensures works { OnOk result (AsBefore input.old input.new) }
-    ensures slack { OnOk result (KeepsSlack R.remaining input.old.source input.new.source) }
     ensures gives { (at : Position) → IsAt R.remaining input.old at → Gives R.remaining at (words scale (L.form scale) at) result input.new }
 {
     let line = input.next_of(scale)?;

@@ -16,7 +16,7 @@ use Rattle.tcc_rules.specs.declared.judgement.Claim.TheVariants as claim
 use Rattle.tcc_rules.specs.declared.judgement.Judgement.{Judgement}
 use Rattle.tcc_check.specs.declared.near_rows.NearJudged.{NearJudged}
 use Rattle.tcc_check.specs.declared.near_rows.NearRows.{NearRows}
-use Rattle.tcc_check.specs.declared.adjacency.Pairs.{Pairs}
+use Rattle.tcc_check.specs.declared.adjacency.PairLists.{PairLists}
 use Rattle.tcc_rules.specs.declared.verdict.Rule.{Rule}
 use Rattle.tcc_rules.specs.declared.verdict.Rule.TheVariants.{Links, NearPairs, NearSteps, FarLinks, FarSteps, Returns}
 use Rattle.tcc_rules.specs.declared.verdict.Verdict.{Verdict}
@@ -51,7 +51,7 @@ pub record AreNearRowsTo (h : History) (level : Level) (least : ℕ) (near : Lis
   pub links : AreEndsTo n (λ u. WeighsFrom h (row_of near u) u) (count h) least rows.links.items
 
 -- what is kept of all of them
-abbrev pub judged : Pairs → NearRows → NearJudged
+abbrev pub judged : PairLists → NearRows → NearJudged
 judged pairs rows = record { verdict = near_verdict rows.faults.pair rows.faults.step; begins = pairs.begins; links = rows.links }
 
 -- the links that a table of lengths gives

@@ -1,6 +1,6 @@
 //! Shortest ways by pairs and links among some transactions, by a breadth-first search backwards (`reverse_search`). A transaction that was
 //! met leads on to the one from which it was met. This takes O(N + R + E) for N transactions, R reads and E links.
-use crate::finder::pairs::Pairs;
+use crate::finder::pairs::PairSpans;
 use crate::finder::reverse_search::ReverseSearch;
 use crate::finder::trimming::Trimmed;
 use crate::finder::work::{SearchError, Work};
@@ -15,7 +15,7 @@ pub(crate) struct BreadthFirst {
 
 impl BreadthFirst {
     /// Before the first search.
-    pub(crate) fn new(alloc: Global, pairs: &Pairs<'_>) -> Result<BreadthFirst, NoMemory> {
+    pub(crate) fn new(alloc: Global, pairs: &PairSpans<'_>) -> Result<BreadthFirst, NoMemory> {
         let reverse = ReverseSearch::new(alloc, pairs)?;
         Ok(BreadthFirst { reverse })
     }

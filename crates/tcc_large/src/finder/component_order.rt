@@ -4,7 +4,7 @@
 use crate::finder::adjacency::Adjacency;
 use crate::finder::components::Components;
 use crate::finder::kahn::Kahn;
-use crate::finder::pairs::Pairs;
+use crate::finder::pairs::PairSpans;
 use std::alloc::Global;
 use tcc_graph::LargeGraph;
 use tcc_order::Stuck;
@@ -35,7 +35,7 @@ pub(crate) fn order_to_judge(
     graph: &LargeGraph,
     stuck: &Stuck,
 ) -> Result<Option<Vec<u32>>, NoMemory> {
-    let pairs = Pairs::of(alloc, graph)?;
+    let pairs = PairSpans::of(alloc, graph)?;
     let adjacency = Adjacency::of(alloc, &pairs, &stuck.kept)?;
     let components = Components::of(alloc, &adjacency)?;
     let mut kahn = Kahn::new(alloc, &adjacency, components.numbers())?;

@@ -3,7 +3,7 @@
 //! rest of it is what a search backwards from there comes to. So between two components pairs and links lead onward. It goes over each pair
 //! and link twice: O(N + R + E) for N transactions, R reads and E links.
 use crate::cells::Cells;
-use crate::finder::adjacency::{Adjacency, Side};
+use crate::finder::adjacency::{Adjacency, Direction};
 use std::alloc::Global;
 use tcc_txn::NoMemory;
 
@@ -16,19 +16,19 @@ enum Visit {
 
 /// A depth-first search forwards: which transactions were seen, and in which order they were left.
 #[derive(Drop)]
-struct Search {
+struct ComponentSearch {
     seen: Cells,
     turns: Vec<Visit>,
     left: Vec<u32>,
     neighbours: Vec<u32>,
 }
 
-impl Search {
+impl ComponentSearch {
     /// Before anything but `init` was seen.
-    fn new(alloc: Global, count: u32) -> Result<Search, NoMemory> {
+    fn new(alloc: Global, count: u32) -> Result<ComponentSearch, NoMemory> {
         let mut seen = Cells::new(alloc, count as usize, 0)?;
         seen.set(0, 1);
-        Ok(Search {
+        Ok(ComponentSearch {
             seen,
             turns: Vec::new(alloc),
             left: Vec::new(alloc),
@@ -43,7 +43,7 @@ impl Search {
         }
         self.seen.set(number, 1);
         self.turns.push(Visit::OutOf(number))?;
-        adjacency.find_neighbours(&mut self.neighbours, number, Side::Behind)?;
+        adjacency.find_neighbours(&mut self.neighbours, number, Direction::Behind)?;
         for next in &self.neighbours {
             if self.seen.get(*next) == 0 {
                 self.turns.push(Visit::Into(*next))?;
@@ -68,7 +68,7 @@ impl Search {
 
 /// All transactions but `init` in the order in which a depth-first search forwards leaves them.
 fn left_one_by_one(alloc: Global, adjacency: &Adjacency<'_>) -> Result<Vec<u32>, NoMemory> {
-    let mut search = Search::new(alloc, adjacency.pairs().count())?;
+    let mut search = ComponentSearch::new(alloc, adjacency.pairs().count())?;
     for start in 1..adjacency.pairs().count() {
         search.search(adjacency, start)?;
     }
@@ -115,7 +115,7 @@ impl Components {
             let Some(number) = self.members.get(index).copied() else {
                 break;
             };
-            adjacency.find_neighbours(neighbours, number, Side::Before)?;
+            adjacency.find_neighbours(neighbours, number, Direction::Before)?;
             self.take_each(neighbours)?;
         }
         Ok(())

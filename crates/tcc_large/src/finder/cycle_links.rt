@@ -1,6 +1,6 @@
 //! From transactions in a circle to the links between them. Between each two it is a pair where there is one, else a derived link with a
 //! shortest walk, which takes a search (`shortest_walks`).
-use crate::finder::pairs::Pairs;
+use crate::finder::pairs::PairSpans;
 use crate::finder::shortest_walks::{ShortestWalks, Sought};
 use crate::finder::work::{SearchError, Work};
 use std::alloc::{AllocError, Global};
@@ -23,7 +23,11 @@ fn following(circle: &[u32], index: usize) -> Option<u32> {
 }
 
 /// The circle without those between two others of their session.
-fn without_runs(alloc: Global, pairs: &Pairs<'_>, circle: &[u32]) -> Result<Vec<u32>, AllocError> {
+fn without_runs(
+    alloc: Global,
+    pairs: &PairSpans<'_>,
+    circle: &[u32],
+) -> Result<Vec<u32>, AllocError> {
     let mut kept = Vec::new(alloc);
     let mut before = circle.last().copied().unwrap_or(0);
     for (index, number) in circle.iter().enumerate() {
@@ -40,7 +44,7 @@ fn without_runs(alloc: Global, pairs: &Pairs<'_>, circle: &[u32]) -> Result<Vec<
 fn contradicted(
     alloc: Global,
     work: &mut Work,
-    pairs: &Pairs<'_>,
+    pairs: &PairSpans<'_>,
     from: u32,
     to: u32,
 ) -> Result<Vec<(u32, u32)>, SearchError> {
@@ -67,7 +71,7 @@ fn add_readers(
 }
 
 /// The step from one transaction to another by a pair, where there is one.
-fn step(pairs: &Pairs<'_>, from: u32, to: u32) -> Option<Step> {
+fn step(pairs: &PairSpans<'_>, from: u32, to: u32) -> Option<Step> {
     if pairs.is_session(from, to) {
         return Some(Step::Session { from, to });
     }
@@ -76,7 +80,7 @@ fn step(pairs: &Pairs<'_>, from: u32, to: u32) -> Option<Step> {
 }
 
 /// The key that is listed beside a reader.
-fn key_of(pairs: &Pairs<'_>, readers: &[(u32, u32)], wanted: u32) -> Option<Name> {
+fn key_of(pairs: &PairSpans<'_>, readers: &[(u32, u32)], wanted: u32) -> Option<Name> {
     for (reader, key_index) in readers {
         if *reader == wanted {
             return pairs.key(*key_index);
@@ -86,7 +90,7 @@ fn key_of(pairs: &Pairs<'_>, readers: &[(u32, u32)], wanted: u32) -> Option<Name
 }
 
 /// The derived link to a transaction by a walk to one of the readers of what it writes.
-fn derived_by(pairs: &Pairs<'_>, walk: Walk, to: u32, readers: &[(u32, u32)]) -> Option<Link> {
+fn derived_by(pairs: &PairSpans<'_>, walk: Walk, to: u32, readers: &[(u32, u32)]) -> Option<Link> {
     let from = walk.as_slice().first()?.from();
     let reader = walk.as_slice().last()?.to();
     let key = key_of(pairs, readers, reader)?;
@@ -101,7 +105,11 @@ fn derived_by(pairs: &Pairs<'_>, walk: Walk, to: u32, readers: &[(u32, u32)]) ->
 
 impl Linker {
     /// A finder for a history at a level.
-    pub(crate) fn new(alloc: Global, pairs: &Pairs<'_>, level: Level) -> Result<Linker, NoMemory> {
+    pub(crate) fn new(
+        alloc: Global,
+        pairs: &PairSpans<'_>,
+        level: Level,
+    ) -> Result<Linker, NoMemory> {
         let longest = match level {
             Level::Atomic => 1,
             Level::Causal => usize::MAX,
@@ -116,7 +124,7 @@ impl Linker {
         &mut self,
         alloc: Global,
         work: &mut Work,
-        pairs: &Pairs<'_>,
+        pairs: &PairSpans<'_>,
         wanted: &[u32],
         to: u32,
         readers: &[(u32, u32)],
@@ -142,7 +150,7 @@ impl Linker {
         &mut self,
         alloc: Global,
         work: &mut Work,
-        pairs: &Pairs<'_>,
+        pairs: &PairSpans<'_>,
         from: u32,
         to: u32,
         most: usize,
@@ -159,7 +167,7 @@ impl Linker {
         &mut self,
         alloc: Global,
         work: &mut Work,
-        pairs: &Pairs<'_>,
+        pairs: &PairSpans<'_>,
         circle: &[u32],
         below: usize,
     ) -> Result<Option<Vec<Link>>, SearchError> {

@@ -5,7 +5,7 @@ use crate::finder::adjacency::Adjacency;
 use crate::finder::back_edges::back_edges;
 use crate::finder::breadth_first::BreadthFirst;
 use crate::finder::cycle_links::Linker;
-use crate::finder::pairs::{Pair, Pairs, span};
+use crate::finder::pairs::{Pair, PairSpans, span};
 use crate::finder::trimming::Trimmed;
 use crate::finder::two_step_back_links::{between, closings};
 use crate::finder::work::{SearchError, Work, unless_spent};
@@ -59,7 +59,7 @@ impl Cheapest {
 /// Where a search for cycles goes on.
 #[derive(Drop)]
 struct Finder<'a> {
-    pairs: &'a Pairs<'a>,
+    pairs: &'a PairSpans<'a>,
     linker: Linker,
     breadth_first: BreadthFirst,
     work: Work,
@@ -108,7 +108,7 @@ fn without(alloc: Global, numbers: &[u32], index: usize) -> Result<Vec<u32>, All
 }
 
 impl<'a> Finder<'a> {
-    fn new(alloc: Global, pairs: &'a Pairs<'a>, level: Level) -> Result<Finder<'a>, NoMemory> {
+    fn new(alloc: Global, pairs: &'a PairSpans<'a>, level: Level) -> Result<Finder<'a>, NoMemory> {
         Ok(Finder {
             pairs,
             linker: Linker::new(alloc, pairs, level)?,
@@ -394,7 +394,7 @@ pub(crate) fn found_cycle(
     level: Level,
     stuck: &Stuck,
 ) -> Result<Option<Vec<Link>>, NoMemory> {
-    let pairs = Pairs::of(alloc, graph)?;
+    let pairs = PairSpans::of(alloc, graph)?;
     let mut finder = Finder::new(alloc, &pairs, level)?;
     finder.find(alloc, level, stuck)?;
     Ok(finder.cheapest.links.take())

@@ -14,7 +14,7 @@ pub(crate) enum Pair {
 
 /// A graph, with the session of each number and the numbers of each session, and how many transactions and reads there are.
 #[derive(Drop)]
-pub(crate) struct Pairs<'a> {
+pub(crate) struct PairSpans<'a> {
     graph: &'a LargeGraph,
     size: u64,
     owners: Cells,
@@ -33,11 +33,11 @@ pub(crate) fn span(numbers: &[u32], low: u32, high: u32) -> &[u32] {
     }
 }
 
-impl<'a> Pairs<'a> {
+impl<'a> PairSpans<'a> {
     /// Those of a graph.
-    pub(crate) fn of(alloc: Global, graph: &'a LargeGraph) -> Result<Pairs<'a>, NoMemory> {
+    pub(crate) fn of(alloc: Global, graph: &'a LargeGraph) -> Result<PairSpans<'a>, NoMemory> {
         let count = graph.sessions().len();
-        let mut pairs = Pairs {
+        let mut pairs = PairSpans {
             graph,
             size: 0,
             owners: Cells::new(alloc, graph.count() as usize, 0)?,

@@ -2,7 +2,7 @@
 //! to. Each transaction is taken in once, and of a session only those that weren't taken in before (`session_prefixes`). So a search takes
 //! O(N + R + E) for the N transactions, R reads and E links that it comes to, and nothing for those that it doesn't.
 use crate::cells::Cells;
-use crate::finder::pairs::Pairs;
+use crate::finder::pairs::PairSpans;
 use crate::finder::session_prefixes::SessionPrefixes;
 use std::alloc::{AllocError, Global};
 use tcc_txn::NoMemory;
@@ -24,7 +24,7 @@ pub(crate) struct ReverseSearch {
 
 impl ReverseSearch {
     /// Before the first search.
-    pub(crate) fn new(alloc: Global, pairs: &Pairs<'_>) -> Result<ReverseSearch, NoMemory> {
+    pub(crate) fn new(alloc: Global, pairs: &PairSpans<'_>) -> Result<ReverseSearch, NoMemory> {
         let count = pairs.count() as usize;
         Ok(ReverseSearch {
             turn: 0,
@@ -90,7 +90,7 @@ impl ReverseSearch {
     }
 
     /// The number from which on those before this one in its session weren't taken in yet; they count as taken in from now on.
-    pub(crate) fn cover(&mut self, pairs: &Pairs<'_>, number: u32) -> u32 {
+    pub(crate) fn cover(&mut self, pairs: &PairSpans<'_>, number: u32) -> u32 {
         self.prefixes.take(pairs, number, self.turn)
     }
 }

@@ -1,7 +1,7 @@
 //! Which transactions of each session a search backwards has taken in: a prefix of the session, since all earlier ones come before. So each
 //! is returned once in a search, and the next search needs no preparation.
 use crate::cells::Cells;
-use crate::finder::pairs::Pairs;
+use crate::finder::pairs::PairSpans;
 use std::alloc::Global;
 use tcc_txn::NoMemory;
 
@@ -22,7 +22,7 @@ impl SessionPrefixes {
     }
 
     /// The number from which on those before this one in its session weren't taken in yet; they count as taken in from now on.
-    pub(crate) fn take(&mut self, pairs: &Pairs<'_>, number: u32, turn: u32) -> u32 {
+    pub(crate) fn take(&mut self, pairs: &PairSpans<'_>, number: u32, turn: u32) -> u32 {
         let owner = pairs.owner(number);
         let mut low = pairs.first(owner);
         if self.turns.get(owner) == turn {

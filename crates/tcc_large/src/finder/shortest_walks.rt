@@ -2,7 +2,7 @@
 //! transaction that was met the pair by which it leads on is kept, so the steps are read off from the start on. This takes O(N + R) for N
 //! transactions and R reads.
 use crate::cells::Cells;
-use crate::finder::pairs::{Pairs, span};
+use crate::finder::pairs::{PairSpans, span};
 use crate::finder::reverse_search::ReverseSearch;
 use crate::finder::work::{SearchError, Work};
 use std::alloc::{AllocError, Global};
@@ -32,7 +32,7 @@ pub(crate) struct ShortestWalks {
 
 impl ShortestWalks {
     /// Before the first search.
-    pub(crate) fn new(alloc: Global, pairs: &Pairs<'_>) -> Result<ShortestWalks, NoMemory> {
+    pub(crate) fn new(alloc: Global, pairs: &PairSpans<'_>) -> Result<ShortestWalks, NoMemory> {
         Ok(ShortestWalks {
             reverse: ReverseSearch::new(alloc, pairs)?,
             by: Cells::new(alloc, pairs.count() as usize, 0)?,
@@ -44,7 +44,7 @@ impl ShortestWalks {
         &mut self,
         alloc: Global,
         work: &mut Work,
-        pairs: &Pairs<'_>,
+        pairs: &PairSpans<'_>,
         sought: &Sought<'_>,
     ) -> Result<Option<Vec<Step>>, SearchError> {
         self.reverse.begin(sought.most);
@@ -76,7 +76,7 @@ impl ShortestWalks {
     fn search(
         &mut self,
         work: &mut Work,
-        pairs: &Pairs<'_>,
+        pairs: &PairSpans<'_>,
         wanted: &[u32],
         number: u32,
     ) -> Result<Option<(u32, u32)>, SearchError> {
@@ -101,7 +101,7 @@ impl ShortestWalks {
     fn search_session(
         &mut self,
         work: &mut Work,
-        pairs: &Pairs<'_>,
+        pairs: &PairSpans<'_>,
         wanted: &[u32],
         number: u32,
     ) -> Result<Option<u32>, SearchError> {
@@ -124,7 +124,7 @@ impl ShortestWalks {
     fn steps(
         &self,
         alloc: Global,
-        pairs: &Pairs<'_>,
+        pairs: &PairSpans<'_>,
         start: u32,
         number: u32,
         by: u32,
@@ -147,7 +147,7 @@ impl ShortestWalks {
 }
 
 /// A step by a session pair, or by the key at an index.
-fn step(pairs: &Pairs<'_>, from: u32, to: u32, by: u32) -> Step {
+fn step(pairs: &PairSpans<'_>, from: u32, to: u32, by: u32) -> Step {
     match pairs.key(by) {
         Some(key) => Step::Reads { from, to, key },
         None => Step::Session { from, to },

@@ -2,8 +2,8 @@
 //! or between two. What has no remaining neighbour on one side, and then on the other, is removed again and again. Each pair and link is
 //! looked at twice for a side: O(N + R + E) for N transactions, R reads and E links.
 use crate::cells::Cells;
-use crate::finder::adjacency::{Adjacency, Side};
-use crate::finder::pairs::{Pair, Pairs};
+use crate::finder::adjacency::{Adjacency, Direction};
+use crate::finder::pairs::{Pair, PairSpans};
 use std::alloc::{AllocError, Global};
 use tcc_bits::is_marked;
 use tcc_txn::NoMemory;
@@ -29,8 +29,8 @@ impl<'a> Trimmed<'a> {
             }
         }
         let mut trimmed = Trimmed { adjacency, marked };
-        trimmed.trim(alloc, Side::Before)?;
-        trimmed.trim(alloc, Side::Behind)?;
+        trimmed.trim(alloc, Direction::Before)?;
+        trimmed.trim(alloc, Direction::Behind)?;
         Ok(trimmed)
     }
 
@@ -40,7 +40,7 @@ impl<'a> Trimmed<'a> {
     }
 
     /// The pairs.
-    pub(crate) fn pairs(&self) -> &'a Pairs<'a> {
+    pub(crate) fn pairs(&self) -> &'a PairSpans<'a> {
         self.adjacency.pairs()
     }
 
@@ -55,7 +55,7 @@ impl<'a> Trimmed<'a> {
     }
 
     /// Unmarks what has no marked one on this side, again and again.
-    fn trim(&mut self, alloc: Global, side: Side) -> Result<(), NoMemory> {
+    fn trim(&mut self, alloc: Global, side: Direction) -> Result<(), NoMemory> {
         let mut neighbours = Vec::new(alloc);
         let mut degrees = self.degrees(alloc, side)?;
         let mut gone = self.without(alloc, &degrees)?;
@@ -72,7 +72,7 @@ impl<'a> Trimmed<'a> {
     }
 
     /// How many marked ones each marked one has on this side.
-    fn degrees(&self, alloc: Global, side: Side) -> Result<Cells, NoMemory> {
+    fn degrees(&self, alloc: Global, side: Direction) -> Result<Cells, NoMemory> {
         let mut neighbours = Vec::new(alloc);
         let mut degrees = Cells::new(alloc, self.pairs().count() as usize, 0)?;
         for number in 1..self.pairs().count() {

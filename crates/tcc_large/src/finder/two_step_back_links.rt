@@ -1,6 +1,6 @@
 //! Closings are the derived links of two steps that close a cycle of four steps, together with two pairs or another such link. They are
 //! looked for at each reader. This takes O(R * r) for R reads, of which a transaction has at most r.
-use crate::finder::pairs::{Pairs, span};
+use crate::finder::pairs::{PairSpans, span};
 use crate::finder::trimming::Trimmed;
 use crate::finder::work::{SearchError, Work};
 use std::alloc::{AllocError, Global};
@@ -81,7 +81,7 @@ fn add(
 }
 
 /// A transaction by which two pairs lead from one to another.
-pub(crate) fn between(pairs: &Pairs<'_>, from: u32, to: u32) -> Option<u32> {
+pub(crate) fn between(pairs: &PairSpans<'_>, from: u32, to: u32) -> Option<u32> {
     let first = pairs.first(pairs.owner(to));
     if let Some(reader) = span(pairs.readings(from).0, first, to).first() {
         return Some(*reader);

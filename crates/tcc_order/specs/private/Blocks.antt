@@ -2,10 +2,10 @@
 use Rattle.tcc_reads.specs.History.{IsBySession}
 use Rattle.tcc_clocks.specs.Clocks.{AreOwners}
 use Rattle.tcc_order.specs.private.News.{IsFloor}
-use Rattle.tcc_order.specs.declared.news.Block.{Block}
+use Rattle.tcc_order.specs.declared.news.NewsBlock.{NewsBlock}
 
 -- each part of it is what its name says
-pub record IsBlock (b : Block) : Type 0 where
+pub record IsBlock (b : NewsBlock) : Type 0 where
   pub numbered : IsBySession b.graph.now.entries
   pub owners : AreOwners b.graph.now b.owners.now
   pub floor : IsFloor b.owners.now b.from b.floor

@@ -21,7 +21,7 @@ pub(super) enum Shown {
 const NAME: &str = "a name, which is 1 to 32 of A-Z, a-z, 0-9, '_', '.' and '-'";
 
 const RECORD: &str =
-    "SESSION,begin or SESSION,r,KEY,VALUE or SESSION,w,KEY,VALUE or SESSION,commit or SESSION,abort or seal";
+    "SESSION,begin or SESSION,r,KEY,VALUE or SESSION,w,KEY,VALUE or SESSION,commit or SESSION,abort or SESSION,unknown or seal";
 
 /// What is shown of a record with this number of fields and a fault of this kind.
 pub(super) fn shown_of(kind: &RowFaultKind, fields: usize) -> Shown
@@ -53,9 +53,9 @@ fn word_stands(fields: usize) -> &'static str
 {
     match fields {
         1 => RECORD,
-        2 => "begin, commit or abort, or r or w with KEY and VALUE",
-        4 => "r or w, or begin, commit or abort without KEY and VALUE",
-        _ => "begin, r, w, commit, abort or seal",
+        2 => "begin, commit, abort or unknown, or r or w with KEY and VALUE",
+        4 => "r or w, or begin, commit, abort or unknown without KEY and VALUE",
+        _ => "begin, r, w, commit, abort, unknown or seal",
     }
 }
 
@@ -158,11 +158,11 @@ pub(super) fn push_expected(
         ),
         RowFaultKind::AlreadyBegun => push_stands(
             text,
-            "commit or abort first, since a transaction of the session is begun",
+            "commit, abort or unknown first, since a transaction of the session is begun",
         ),
         RowFaultKind::Unfinished { .. } => push(
             text,
-            &[b"the input ends: expected commit or abort of the session"],
+            &[b"the input ends: expected commit, abort or unknown of the session"],
         ),
         RowFaultKind::NoMemory => push(text, &[b"out of memory"]),
         RowFaultKind::TooManyOps

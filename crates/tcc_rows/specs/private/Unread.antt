@@ -1,39 +1,22 @@
--- Written values that nobody has read, as a set.
-use Rattle.std.specs.Prelude.{ℕ, ◌≡◌, Bool, false, not, ◌&&◌, ◌==◌, List}
-use Rattle.std.specs.BTreeSet.{BTreeSet, contains}
-use Rattle.std.specs.Cmp.Lexicographic.{slice_cmp}
-use Rattle.std.specs.List.{list_any}
-use Rattle.std.specs.Ordering.{nat_cmp, ordering_then}
-use Rattle.std.specs.declared.cmp.Ordering.{Ordering}
-use Rattle.tcc_txn.specs.Bytes.{same}
-use Rattle.tcc_rows.specs.Settling.{Pending}
+-- Values of pending transactions from one step to the next.
+use Rattle.std.specs.Prelude.{ℕ, ◌≡◌, Bool, false, not, ◌&&◌, ◌||◌, List}
+use Rattle.tcc_rows.specs.Followed.{WrittenSet, holds}
+use Rattle.tcc_rows.specs.declared.pending.PendingValues.{PendingValues}
 use Rattle.tcc_txn.specs.declared.op.Op.{Op}
 use Rattle.tcc_txn.specs.declared.op.Op.TheVariants.{Get, Put}
 
--- by their keys, and then by the values
-abbrev pub written_cmp : List ℕ × ℕ → List ℕ × ℕ → Ordering
-written_cmp a b = ordering_then (slice_cmp nat_cmp a.0 b.0) (nat_cmp a.1 b.1)
+-- the unread values that pass a test are found
+pub record Strikes (is_struck : List ℕ × ℕ → Bool) (old new : PendingValues) : Type 0 where
+  pub unread : (written : List ℕ × ℕ) → holds new.unread written ≡ (holds old.unread written && not (is_struck written))
+  pub found : (written : List ℕ × ℕ) → holds new.found written ≡ (holds old.found written || (holds old.unread written && is_struck written))
 
-abbrev pub WrittenSet : Type 0
-WrittenSet = BTreeSet (List ℕ × ℕ)
+-- of all the values that pass a test, the rest is still to be struck out
+pub record LeavesRest (all rest : List ℕ × ℕ → Bool) (old now : PendingValues) : Type 0 where
+  pub unread : (written : List ℕ × ℕ) → (holds now.unread written && not (rest written)) ≡ (holds old.unread written && not (all written))
+  pub found : (written : List ℕ × ℕ) → (holds now.found written || (holds now.unread written && rest written))
+      ≡ (holds old.found written || (holds old.unread written && all written))
 
-abbrev pub holds : WrittenSet → List ℕ × ℕ → Bool
-holds set written = contains written_cmp set written
-
--- the operation writes this value at this key
-abbrev pub puts : List ℕ × ℕ → Op → Bool
-puts written (Get key value) = false
-puts written (Put key value) = same key written.0 && (value == written.1)
-
--- one of the transactions writes the value at the key
-abbrev pub is_written : Pending → List ℕ × ℕ → Bool
-is_written pending written = list_any (λ p. list_any (puts written) p.1.ops) pending
-
--- of a set exactly those stay that a test refuses
-abbrev pub Strikes : (List ℕ × ℕ → Bool) → WrittenSet → WrittenSet → Type 0
-Strikes is_struck old new = (written : List ℕ × ℕ) → holds new written ≡ (holds old written && not (is_struck written))
-
--- the operation writes a value that isn't in the set
-abbrev pub is_outside : WrittenSet → Op → Bool
-is_outside unread (Get key value) = false
-is_outside unread (Put key value) = not (holds unread (key, value))
+-- the operation writes a value that is in the set
+abbrev pub is_among : WrittenSet → Op → Bool
+is_among found (Get key value) = false
+is_among found (Put key value) = holds found (key, value)

@@ -2,6 +2,7 @@
 use Rattle.std.specs.Prelude.{ℕ, ◌≡◌, List, ◌++◌, fold, Option, None, Some, Result, Ok, Err}
 use Rattle.tcc_rows.specs.Ahead.{IsAhead}
 use Rattle.tcc_rows.specs.Answers.{Answers, after_item, ending, settled_behind}
+use Rattle.tcc_rows.specs.Followed.{IsFollowed}
 use Rattle.tcc_rows.specs.Items.{finished_in, with_item}
 use Rattle.tcc_rows.specs.Recordings.{Passes, TakesCheckpoint}
 use Rattle.tcc_txn.specs.Finished.{IsWithinLimits}
@@ -21,6 +22,7 @@ pub record IsUnderWay (limits : Limits) {R B : Type 0} (remaining : R → Option
   pub answers : IsAhead limits remaining recording.rows given
   pub settles : ahead ≡ settled_behind recording.snapshot recording.pending.items given
   pub snapshot : recording.snapshot ≡ finished_in taken
+  pub followed : IsFollowed recording.snapshot recording.pending.items recording.values
   pub limits_kept : IsWithinLimits limits (finished_in (taken ++ ahead.items))
 
 -- the rows have come to a checkpoint after which they give this
@@ -37,6 +39,7 @@ pub record IsUnsettled (limits : Limits) {R B : Type 0} (remaining : R → Optio
   pub answers : IsAhead limits remaining recording.rows given
   pub last : at ≡ checkpoint.End → given ≡ ending None
   pub snapshot : recording.snapshot ≡ finished_in (taken ++ passed)
+  pub followed : IsFollowed recording.snapshot recording.pending.items recording.values
   pub limits_kept : IsWithinLimits limits (finished_in (taken ++ ahead.items))
 
 -- the recording went on to a checkpoint, which isn't settled yet, or to a fault

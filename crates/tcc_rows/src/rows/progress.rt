@@ -7,7 +7,7 @@ ghost use Rattle.tcc_rows.specs.Past.{least, lesser, open_sessions, ops_since, w
 ghost use Rattle.tcc_rows.specs.SessionStates.{HoldsEnded, HoldsNames, HoldsSeats, IsAfter};
 ghost use Rattle.tcc_rows.specs.private.Passing.{MayBegin, NotesName, PassesLine, PassesOperation, TakesLine, lower};
 ghost use Rattle.tcc_txn.specs.{Transactions.writes_zero, declared.limits.Limits.Limits};
-ghost use Rattle.tcc_rows.specs.declared.rows.Stage.TheVariants as stage;
+ghost use Rattle.tcc_rows.specs.declared.rows.RowsStage.TheVariants as stage;
 ghost use Rattle.tcc_rows.specs.Line as line;
 
 use super::Item;

@@ -9,7 +9,7 @@ use Rattle.tcc_graph.specs.declared.level.Level.TheVariants.{Causal}
 use Rattle.tcc_clocks.specs.Clocks.{AreOwners, IsAfter}
 use Rattle.tcc_clocks.specs.declared.latest.TheConstants.{WIDE}
 use Rattle.tcc_survey.specs.Circles.{IsAcyclic}
-use Rattle.tcc_survey.specs.declared.block.Block.{Block}
+use Rattle.tcc_survey.specs.declared.block.ClockBlock.{ClockBlock}
 use Rattle.tcc_survey.specs.declared.calling.Calling.{Calling}
 use Rattle.tcc_survey.specs.declared.calling.CallingSweep.{CallingSweep}
 use Rattle.tcc_survey.specs.declared.called.Called.{Called}
@@ -74,7 +74,7 @@ abbrev pub IsReaderFrom : ℕ → ℕ → Called → Type 0
 IsReaderFrom latest b m = (b ≤ m.writer) × (((m.name ≡ name.MonotonicReads) × (m.writer ≤ latest)) ⊎ (m.name ≡ name.WritesFollowReads))
 
 -- the rows are those of the block
-pub record IsCallingBlock (block : Block) (firsts : List (List ℕ)) : Type 0 where
+pub record IsCallingBlock (block : ClockBlock) (firsts : List (List ℕ)) : Type 0 where
   pub numbered : IsBySession block.graph.now.entries
   pub room : block.from + WIDE < 2 ^ 32
   pub acyclic : IsAcyclic block.graph.now

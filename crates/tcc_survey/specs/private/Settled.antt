@@ -12,7 +12,7 @@ use Rattle.tcc_survey.specs.private.Firsts.{AreFirsts}
 use Rattle.tcc_clocks.specs.declared.latest.TheConstants.{WIDE}
 use Rattle.tcc_survey.specs.declared.external_reads.Reading.{Reading}
 use Rattle.tcc_survey.specs.declared.scanning.Scan.{Scan}
-use Rattle.tcc_survey.specs.declared.scanning.Sweep.{Sweep}
+use Rattle.tcc_survey.specs.declared.scanning.ReadSweep.{ReadSweep}
 use Rattle.tcc_survey.specs.Circles.{IsAcyclic}
 use Rattle.tcc_survey.specs.Contradictions.{IsContradictedBy}
 
@@ -41,7 +41,7 @@ IsHitIn j owners session low high among c b =
     (0 < b) × Contains among b × (slice_index owners b ≡ session) × (low ≤ b) × (b ≤ high) × IsKnown j.level j.history b c
 
 -- the transactions of the block's history are numbered by sessions and are in no circle, and the clocks are those of its sessions
-pub record IsBlock (s : Sweep) : Type 0 where
+pub record IsBlock (s : ReadSweep) : Type 0 where
   pub numbered : IsBySession s.block.graph.now.entries
   pub room : s.block.from + WIDE < 2 ^ 32
   pub acyclic : IsAcyclic s.block.graph.now

@@ -3,7 +3,7 @@ use Rattle.std.proofs.lemmas.Grind.{common_steps}
 use Rattle.tcc_txn.specs.Transactions.{op_key, op_value}
 use Rattle.tcc_reads.specs.private.Tracings.{is_outside}
 use Rattle.tcc_reads.proofs.ByIndex.{kept_named, kept_within}
-use Rattle.tcc_reads.proofs.KeyNumbers.{number_of}
+use Rattle.tcc_reads.proofs.KeyNumbers.{first_numbers, number_of}
 use Rattle.tcc_reads.proofs.judging.trace.Goals as goal
 
 pub loop-before-preserved : goal.loop-before-preserved
@@ -24,3 +24,7 @@ pub judgement_of-judgement-requires-clause-index : goal.judgement_of-judgement-r
 judgement_of-judgement-requires-clause-index c =
     number_of c.args.writers.now.keys c.args.indices.now c.args.ops.now c.requires.indices c.loop-before.before 0 c.index-ops-before.result
     c.loop-before-test.true c.index-ops-before.is
+
+pub judgement_of-judgement-requires-clause-earlier : goal.judgement_of-judgement-requires-clause-earlier
+judgement_of-judgement-requires-clause-earlier c =
+    first_numbers c.args.writers.now.keys c.args.indices.now c.args.ops.now c.loop-before.before c.loop-before-test.true c.requires.indices

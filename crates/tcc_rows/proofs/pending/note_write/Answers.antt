@@ -1,5 +1,5 @@
 use Rattle.std.proofs.Common.{ap, ◌∙◌, true, cond}
-use Rattle.tcc_rows.specs.private.Unread.{holds}
+use Rattle.tcc_rows.specs.Followed.{holds}
 use Rattle.tcc_rows.proofs.PendingFacts.{added, written-tie}
 use Rattle.tcc_rows.proofs.pending.note_write.Goals as goal
 

@@ -1,6 +1,6 @@
 use Rattle.std.proofs.Common.{ℕ, ◌≡◌, ◌||◌, List, drop}
 use Rattle.std.specs.List.{list_any}
-use Rattle.tcc_rows.specs.private.Unread.{holds, puts}
+use Rattle.tcc_rows.specs.Followed.{holds, puts}
 use Rattle.tcc_rows.proofs.pending.note_writes.Given as goal
 
 abbrev pub invariant-loop-op : goal.invariant-loop-op

@@ -1,5 +1,5 @@
 use Rattle.std.proofs.Common.{ℕ, ◌≡◌, ◌||◌, List, drop}
-use Rattle.tcc_rows.specs.private.Unread.{holds, is_written}
+use Rattle.tcc_rows.specs.Followed.{holds, is_written}
 use Rattle.tcc_rows.proofs.pending.written_by.Given as goal
 
 abbrev pub invariant-loop-one : goal.invariant-loop-one

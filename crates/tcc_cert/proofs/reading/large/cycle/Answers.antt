@@ -16,12 +16,12 @@ returns-in_err-give_links-clause-gives g c at h before ready =
     let p = err_from_is_err_and c.from_residual.result c.from_residual.ensures.1 in
     rw (p.1, p.2) (first-faults (repeated (link_at Large) c.args.sizes.links at) _ _
     (behind-links c.args.sizes.level c.args.sizes.transactions c.args.sizes.cost)
-    (c.in_err-give_links.ensures.gives at h c.args.sizes before (c.start.ensures h ready)))
+    (c.in_err-give_links.ensures.gives at h c.args.sizes before (c.start.ensures.start h ready)))
 
 pub returns-in_err-tail-clause-gives : goal.returns-in_err-tail-clause-gives
 returns-in_err-tail-clause-gives g c at h before ready =
     let p = err_from_is_err_and c.from_residual-in_err-tail.result c.from_residual-in_err-tail.ensures.1 in
-    let links = c.in_ok-give_links.ensures.gives at h c.args.sizes before (c.start.ensures h ready) in
+    let links = c.in_ok-give_links.ensures.gives at h c.args.sizes before (c.start.ensures.start h ready) in
     rw (p.1, p.2) (later-faults (repeated (link_at Large) c.args.sizes.links at) _ _ links.given.1
     (onward-at _ (onward-links c.args.sizes.links at) links.given.1)
     (first-faults (words Large tail_line links.given.0) _ _ (behind-tail c.args.sizes.level c.args.sizes.transactions c.args.sizes.cost links.item)
@@ -30,7 +30,7 @@ returns-in_err-tail-clause-gives g c at h before ready =
 pub returns-in_err-least-clause-gives : goal.returns-in_err-least-clause-gives
 returns-in_err-least-clause-gives g c at h before ready =
     let p = err_from_is_err_and c.from_residual-in_err-least.result c.from_residual-in_err-least.ensures.1 in
-    let links = c.in_ok-give_links.ensures.gives at h c.args.sizes before (c.start.ensures h ready) in
+    let links = c.in_ok-give_links.ensures.gives at h c.args.sizes before (c.start.ensures.start h ready) in
     let tail = c.in_ok-tail.ensures.gives links.given.0 links.given.2 in
     rw (p.1, p.2) (later-faults (repeated (link_at Large) c.args.sizes.links at) _ _ links.given.1
     (onward-at _ (onward-links c.args.sizes.links at) links.given.1)
@@ -40,7 +40,7 @@ returns-in_err-least-clause-gives g c at h before ready =
 
 pub returns-clause-gives : goal.returns-clause-gives
 returns-clause-gives g c at h before ready =
-    let links = c.in_ok-give_links.ensures.gives at h c.args.sizes before (c.start.ensures h ready) in
+    let links = c.in_ok-give_links.ensures.gives at h c.args.sizes before (c.start.ensures.start h ready) in
     let tail = c.in_ok-tail.ensures.gives links.given.0 links.given.2 in
     let least = c.in_ok-least.ensures.gives tail.0 tail.2 in
     record {

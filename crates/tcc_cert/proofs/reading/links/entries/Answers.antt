@@ -1,5 +1,5 @@
 -- One more entry.
-use Rattle.std.proofs.Common.{arith, ℕ, inr, refl, ◌∙◌}
+use Rattle.std.proofs.Common.{ℕ, inr, refl, ◌∙◌}
 use Rattle.std.proofs.lemmas.Result.{err_from_is_err_and}
 use Rattle.tcc_cert.specs.declared.fault.CertFaultKind.TheVariants.{NoMemory}
 use Rattle.tcc_cert.specs.declared.ranges.TextFormat.{TextFormat}
@@ -12,7 +12,7 @@ abbrev each_at : {X : Type 0} → (TextFormat → Position → Reads X) → Text
 each_at entry scale i = entry scale
 
 pub entries-init : goal.entries-init
-entries-init g c = record { works = refl; slack = omega arith; read = λ at before. (at, rw c.new-items.ensures.items (part-none (each_at g.E.Entry.entry c.args.scale) c.args.count at), before) }
+entries-init g c = record { works = refl; read = λ at before. (at, rw c.new-items.ensures.items (part-none (each_at g.E.Entry.entry c.args.scale) c.args.count at), before) }
 
 pub returns-in_err-one-clause-gives : goal.returns-in_err-one-clause-gives
 returns-in_err-one-clause-gives g c at before =
@@ -33,7 +33,6 @@ returns-in-Err-clause-gives g c at before =
 pub entries-preserved : goal.entries-preserved
 entries-preserved g c = record {
   works = c.in_ok-one.ensures.works ∙ c.entries.invariant.works;
-  slack = omega (arith, c.in_ok-one.ensures.slack, c.entries.invariant.slack);
   read = λ at before.
       let now = c.entries.invariant.read at before in
       let one = c.in_ok-one.ensures.gives now.0 now.2 in

@@ -3,7 +3,7 @@ use Rattle.std.proofs.Common.{Ok, refl}
 use Rattle.tcc_cert.specs.declared.ranges.TextFormat.TheVariants.{Small}
 use Rattle.tcc_cert.specs.declared.part.CycleHead.{CycleHead}
 use Rattle.tcc_cert.specs.declared.part.Part.TheVariants as part
-use Rattle.tcc_cert.specs.declared.reading.stages.Stage.TheVariants as stage
+use Rattle.tcc_cert.specs.declared.reading.stages.ReadingStage.TheVariants as stage
 use Rattle.tcc_cert.specs.declared.reading.stages.ExpectedPart.TheVariants as coming
 use Rattle.std.proofs.lemmas.Result.{err_from_is_err_and}
 use Rattle.tcc_cert.specs.Parts.{link_rows}

@@ -15,7 +15,7 @@ returns-in_err-head-clause-gives g c at h sizes links before taken =
 pub returns-in-Ok-clause-gives : goal.returns-in-Ok-clause-gives
 returns-in-Ok-clause-gives g c at h sizes links before taken = record {
   item = c.in_ok-head.head;
-  holds = (refl, c.in-Ok.ensures h sizes links taken);
+  holds = (refl, c.in-Ok.ensures.head h sizes links taken);
   given = c.in_ok-head.ensures.gives at before;
 }
 

@@ -32,7 +32,7 @@ returns-in-Ok-clause-gives g c at h sizes links before taken =
     let walk = rw begun.holds.0 at (c.in_ok-give_walk.ensures.gives begun.given.0 h sizes links begun.item.link begun.given.2 begun.holds.1) in
     record {
       item = with_walk begun.item.link walk.item;
-      holds = c.in-Ok.ensures h sizes links begun.item.link walk.item walk.holds;
+      holds = c.in-Ok.ensures.link h sizes links begun.item.link walk.item walk.holds;
       given = (walk.given.0, then_ok (walk_of Large) begun.given.1 ∙ then_ok _ walk.given.1, walk.given.2);
     }
 

@@ -1,12 +1,12 @@
 -- One more link.
-use Rattle.std.proofs.Common.{arith, refl, ◌∙◌}
+use Rattle.std.proofs.Common.{refl, ◌∙◌}
 use Rattle.std.proofs.lemmas.Result.{err_from_is_err_and}
 use Rattle.tcc_cert.proofs.StepFacts.{part-faults}
 use Rattle.tcc_cert.proofs.TakingFacts.{given-all, given-more, given-none, links_at, onward-links}
 use Rattle.tcc_cert.proofs.reading.taking.give_links.Goals as goal
 
 pub links-init : goal.links-init
-links-init g c = record { works = refl; slack = omega arith; read = λ at h sizes before taken. given-none g.R.Read.remaining links_at c.args.count at _ _ taken before }
+links-init g c = record { works = refl; ready = λ h is. is; read = λ at h sizes before taken. given-none g.R.Read.remaining links_at c.args.count at _ _ taken before }
 
 pub returns-in_err-give_link-clause-gives : goal.returns-in_err-give_link-clause-gives
 returns-in_err-give_link-clause-gives g c at h sizes before taken =
@@ -18,7 +18,7 @@ returns-in_err-give_link-clause-gives g c at h sizes before taken =
 pub links-preserved : goal.links-preserved
 links-preserved g c = record {
   works = c.in_ok-give_link.ensures.works ∙ c.links.invariant.works;
-  slack = omega (arith, c.in_ok-give_link.ensures.slack, c.links.invariant.slack);
+  ready = λ h is. c.give_link.ensures.ready h (c.links.invariant.ready h is);
   read = λ at h sizes before taken.
       let so_far = c.links.invariant.read at h sizes before taken in
       let one = c.in_ok-give_link.ensures.gives so_far.now h sizes so_far.items so_far.there so_far.holds in

@@ -1,5 +1,5 @@
 -- One more step.
-use Rattle.std.proofs.Common.{arith, inr, refl, ◌∙◌}
+use Rattle.std.proofs.Common.{inr, refl, ◌∙◌}
 use Rattle.std.proofs.lemmas.Result.{err_from_is_err_and}
 use Rattle.tcc_cert.specs.declared.fault.CertFaultKind.TheVariants.{NoMemory}
 use Rattle.tcc_cert.proofs.StepFacts.{part-faults, part-more, part-refused}
@@ -7,7 +7,7 @@ use Rattle.tcc_cert.proofs.TakingFacts.{given-all, given-more, given-none, onwar
 use Rattle.tcc_cert.proofs.reading.taking.give_walk.Goals as goal
 
 pub steps-init : goal.steps-init
-steps-init g c = record { works = refl; slack = omega arith; read = λ at h sizes links head before taken. given-none g.R.Read.remaining steps_at c.args.count at _ _ taken before }
+steps-init g c = record { works = refl; ready = λ h is. is; read = λ at h sizes links head before taken. given-none g.R.Read.remaining steps_at c.args.count at _ _ taken before }
 
 pub returns-in_err-one-clause-gives : goal.returns-in_err-one-clause-gives
 returns-in_err-one-clause-gives g c at h sizes links head before taken =
@@ -28,12 +28,12 @@ returns-in-Err-clause-gives g c at h sizes links head before taken =
 pub steps-preserved : goal.steps-preserved
 steps-preserved g c = record {
   works = c.in_ok-one.ensures.works ∙ c.steps.invariant.works;
-  slack = omega (arith, c.in_ok-one.ensures.slack, c.steps.invariant.slack);
+  ready = λ h is. c.step.ensures.ready h (c.steps.invariant.ready h is);
   read = λ at h sizes links head before taken.
       let so_far = c.steps.invariant.read at h sizes links head before taken in
       given-more g.R.Read.remaining steps_at c.args.count at _ _ c.steps.counter _ _ so_far c.in_ok-one.one c.steps-test.true
       (onward-steps c.steps.counter so_far.now) (c.in_ok-one.ensures.gives so_far.now so_far.there)
-      (c.in-Ok.ensures h sizes links head so_far.items so_far.holds);
+      (c.in-Ok.ensures.step h sizes links head so_far.items so_far.holds);
 }
 
 pub returns-clause-gives : goal.returns-clause-gives

@@ -1,4 +1,4 @@
-use Rattle.std.proofs.Common.{◌≡◌, ◌↔◌, ◌++◌, ◌∷◌, [], List}
+use Rattle.std.proofs.Common.{◌≡◌, ◌↔◌}
 use Rattle.std.specs.Prelude.{IsTrue}
 use Rattle.std.specs.List.{All}
 use Rattle.tcc_reads.specs.History.{count}
@@ -9,8 +9,8 @@ use Rattle.tcc_cert.specs.Reading.{with_walk}
 use Rattle.tcc_rules.specs.Known.{IsKnownLink, IsKnownWalk}
 use Rattle.tcc_judge.proofs.taken.TakenLinksTakesLinks.end.Goals as goal
 
-pub returns : goal.returns
-returns c h sizes links head walk is =
+pub returns-clause-link : goal.returns-clause-link
+returns-clause-link c h sizes links head walk is =
     let old = c.args.self.now in
     let graph : old.graph.now ≡ h = is.so_far.graph in
     let same : c.in-Some.head ≡ head = cc (c.take.ensures.value, c.in-Some.is, is.begun) in
@@ -22,5 +22,5 @@ returns c h sizes links head walk is =
       graph = graph;
       level = is.so_far.level;
       below = rw (graph, same) at (c.are_links_below-self.ensures (link_from head) walk links here below);
-      seen = c.in_ok-judge_known.ensures (judged h sizes.level) sizes.cost links (with_walk head walk) known is.so_far.seen;
+      seen = c.in_ok-judge_known.ensures.one (judged h sizes.level) sizes.cost links (with_walk head walk) known is.so_far.seen;
     }

@@ -5,8 +5,8 @@ use Rattle.tcc_graph.specs.Levels.{judged}
 use Rattle.tcc_cert.specs.CycleRules.{IsLinkBelow}
 use Rattle.tcc_judge.proofs.taken.TakenLinksTakesLinks.start.Goals as goal
 
-pub returns : goal.returns
-returns c h is = record {
+pub returns-clause-start : goal.returns-clause-start
+returns-clause-start c h is = record {
   graph = is;
   level = refl;
   below = ((λ _. All-nil (IsLinkBelow (count h))), (λ _. refl));

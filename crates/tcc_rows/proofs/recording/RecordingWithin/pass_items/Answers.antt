@@ -6,7 +6,7 @@ use Rattle.tcc_rows.specs.private.Waiting.{PassesItems}
 use Rattle.tcc_rows.specs.declared.rows.Item.TheVariants as item
 use Rattle.tcc_txn.proofs.Nesting.{nested_itself, nested_on, nested_transaction}
 use Rattle.tcc_rows.proofs.RecordSteps.{failure-of-none}
-use Rattle.tcc_rows.proofs.RecordingSteps.{at-checkpoint, comes_to_end, comes_to_seal, err-of, fails-behind, gives_up, goes_on, has-room, if-err-of}
+use Rattle.tcc_rows.proofs.RecordingSteps.{at-checkpoint, comes_to_end, comes_to_seal, err-of, fails-behind, follows-taken, follows-unknown, gives_up, goes_on, has-room, if-err-of}
 use Rattle.tcc_rows.proofs.RecordingSteps.{loses_one, met-itself, met-stopped, never-stopped, not-begun, not-end, not-end-unknown, not-ok}
 use Rattle.tcc_rows.proofs.RecordingSteps.{stops, waits, within-stopped}
 use Rattle.tcc_rows.proofs.recording.RecordingWithin.pass_items.Goals.{in-Finished+in_ok-take-in-Finished, in-Unknown+in_ok-wait-in-Unknown}
@@ -30,7 +30,7 @@ returns-in_err-session-clause-passed g c taken ahead recording =
     (sym (err-of g.B.Bounds.limits c.from_residual.result c.in_err-session.field-0.0 c.from_residual.ensures.1))
     (stops g.B.Bounds.limits g.R.Read.remaining taken ahead c.items.self (record c.items.self { rows = c.next.new.self }) way c.in_err-session.field-0.0
     (c.in_err-session.ensures.answers g.B.Bounds.limits way.3.given way.3.answers) refl
-    (met-stopped c.next.new.self.stage c.in_err-session.field-0.0 c.in_err-session.ensures.stops))
+    (met-stopped c.next.new.self.stage c.in_err-session.field-0.0 c.in_err-session.ensures.stops) way.3.followed)
 
 pub returns-in_err-session-clause-failed : goal.returns-in_err-session-clause-failed
 returns-in_err-session-clause-failed g c =
@@ -72,7 +72,7 @@ returns-in_err-take-in-Finished-clause-passed g c taken ahead recording =
     (sym (err-of g.B.Bounds.limits c.from_residual-in_err-take-in-Finished.result fault c.from_residual-in_err-take-in-Finished.ensures.1))
     (loses_one g.B.Bounds.limits g.R.Read.remaining taken ahead c.items.self c.take.new.self way c.in-Finished.session c.in-Finished.txn c.next.new.self fault answer
     (c.in_err-take-in-Finished.ensures.memory room) (ap (λ rows. rows.stage) c.in_err-take-in-Finished.ensures.stopped.0)
-    c.in_err-take-in-Finished.ensures.kept)
+    c.in_err-take-in-Finished.ensures.kept (follows-taken c.items.self c.take.new.self c.take.ensures.pending c.take.ensures.followed way.3.followed))
 
 pub returns-in_err-take-in-Finished-clause-within : goal.returns-in_err-take-in-Finished-clause-within
 returns-in_err-take-in-Finished-clause-within g c all within =
@@ -91,7 +91,7 @@ returns-in_err-wait-in-Unknown-clause-passed g c taken ahead recording =
     (sym (err-of g.B.Bounds.limits c.from_residual-in_err-wait-in-Unknown.result fault c.from_residual-in_err-wait-in-Unknown.ensures.1))
     (gives_up g.B.Bounds.limits g.R.Read.remaining taken ahead c.items.self c.wait.new.self way fault
     (ap (λ fault. fault.kind) c.in_err-wait-in-Unknown.ensures.stopped.1) (ap (λ rows. rows.stage) c.in_err-wait-in-Unknown.ensures.stopped.0)
-    c.in_err-wait-in-Unknown.ensures.kept)
+    c.in_err-wait-in-Unknown.ensures.kept (follows-unknown c.wait.new.self c.wait.ensures.unknown))
 
 pub returns-in_err-wait-in-Unknown-clause-within : goal.returns-in_err-wait-in-Unknown-clause-within
 returns-in_err-wait-in-Unknown-clause-within g c all within =
@@ -107,20 +107,20 @@ returns-in-Seal-clause-passed g c taken ahead recording =
     let way = c.items.invariant.way taken ahead recording in
     comes_to_seal g.B.Bounds.limits g.R.Read.remaining taken ahead c.items.self (record c.items.self { rows = c.next.new.self }) way
     (subst (λ given. TakesAnswer g.B.Bounds.limits g.R.Read.remaining way.3.given (Ok given) c.next.new.self) c.in-Seal.is
-    (c.in_ok-session.ensures.answers g.B.Bounds.limits way.3.given way.3.answers)) refl refl
+    (c.in_ok-session.ensures.answers g.B.Bounds.limits way.3.given way.3.answers)) refl refl way.3.followed
 
 pub returns-in-End-clause-passed : goal.returns-in-End-clause-passed
 returns-in-End-clause-passed g c taken ahead recording =
     let way = c.items.invariant.way taken ahead recording in
     comes_to_end g.B.Bounds.limits g.R.Read.remaining taken ahead c.items.self (record c.items.self { rows = c.next.new.self }) way
     (subst (λ given. TakesAnswer g.B.Bounds.limits g.R.Read.remaining way.3.given (Ok given) c.next.new.self) c.in-End.is
-    (c.in_ok-session.ensures.answers g.B.Bounds.limits way.3.given way.3.answers)) refl refl
+    (c.in_ok-session.ensures.answers g.B.Bounds.limits way.3.given way.3.answers)) refl refl way.3.followed
 
 pub returns-clause-passed : goal.returns-clause-passed
 returns-clause-passed g c taken ahead recording =
     let way = c.items.invariant.way taken ahead recording in
     gives_up g.B.Bounds.limits g.R.Read.remaining taken ahead c.items.self (record c.items.self { rows = c.give_up.new.self }) way c.give_up.result
-    (ap (λ fault. fault.kind) c.give_up.ensures.fault) (ap (λ rows. rows.stage) c.give_up.ensures.stopped) refl
+    (ap (λ fault. fault.kind) c.give_up.ensures.fault) (ap (λ rows. rows.stage) c.give_up.ensures.stopped) refl way.3.followed
 
 pub items-preserved : goal.items-preserved
 items-preserved g c = elim c.match-branch-2.branch [
@@ -133,7 +133,8 @@ items-preserved g c = elim c.match-branch-2.branch [
         goes_on g.B.Bounds.limits g.R.Read.remaining taken ahead c.items.self w.take.new.self way w.in-Finished.session w.in-Finished.txn
         (subst (λ rows. TakesAnswer g.B.Bounds.limits g.R.Read.remaining way.3.given (Ok (item.Finished w.in-Finished.session w.in-Finished.txn)) rows)
         (sym w.in_ok-take-in-Finished.ensures.taken.1) answer)
-        w.in_ok-take-in-Finished.ensures.taken.0 (ap (λ pending. pending.items) w.in_ok-take-in-Finished.ensures.pending);
+        w.in_ok-take-in-Finished.ensures.taken.0 (ap (λ pending. pending.items) w.in_ok-take-in-Finished.ensures.pending)
+        (follows-taken c.items.self w.take.new.self w.take.ensures.pending w.take.ensures.followed way.3.followed);
     continues =
         nested_on c.args.self.now.snapshot c.items.self.snapshot w.take.new.self.snapshot c.items.invariant.continues
         (subst (IsNested c.items.self.snapshot) (sym w.in_ok-take-in-Finished.ensures.taken.0)
@@ -159,7 +160,7 @@ items-preserved g c = elim c.match-branch-2.branch [
         waits g.B.Bounds.limits g.R.Read.remaining taken ahead c.items.self w.wait.new.self way w.in-Unknown.session w.in-Unknown.txn
         (subst (λ rows. TakesAnswer g.B.Bounds.limits g.R.Read.remaining way.3.given (Ok (item.Unknown w.in-Unknown.session w.in-Unknown.txn)) rows)
         (sym w.in_ok-wait-in-Unknown.ensures.waits.1) answer)
-        w.in_ok-wait-in-Unknown.ensures.kept w.in_ok-wait-in-Unknown.ensures.waits.0;
+        w.in_ok-wait-in-Unknown.ensures.kept w.in_ok-wait-in-Unknown.ensures.waits.0 (follows-unknown w.wait.new.self w.wait.ensures.unknown);
     continues = subst (IsNested c.args.self.now.snapshot) (sym w.in_ok-wait-in-Unknown.ensures.kept) c.items.invariant.continues;
     within =
         λ all within. subst (λ rows. IsWithin g.R.Read.remaining rows all) (sym w.in_ok-wait-in-Unknown.ensures.waits.1)

@@ -8,7 +8,7 @@ use Rattle.tcc_txn.specs.Nested.{IsNested}
 use Rattle.tcc_rows.specs.Reached.{IsWithin}
 use Rattle.tcc_rows.specs.Recordings.{IsRecording}
 use Rattle.tcc_rows.specs.declared.rows.Item.{Item}
-use Rattle.tcc_rows.specs.declared.rows.Stage.TheVariants as stage
+use Rattle.tcc_rows.specs.declared.rows.RowsStage.TheVariants as stage
 use Rattle.tcc_rows.proofs.RecordingSteps.{HasPassed}
 use Rattle.tcc_rows.proofs.recording.RecordingWithin.pass_items.Given as goal
 

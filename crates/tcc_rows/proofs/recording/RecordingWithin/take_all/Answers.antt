@@ -5,7 +5,7 @@ use Rattle.tcc_txn.proofs.Growing.{err-always}
 use Rattle.tcc_txn.proofs.Nesting.{nested_on, nested_transaction}
 use Rattle.tcc_rows.specs.Reached.{row_reached}
 use Rattle.tcc_rows.specs.Settling.{told}
-use Rattle.tcc_rows.specs.declared.rows.Stage.TheVariants as stage
+use Rattle.tcc_rows.specs.declared.rows.RowsStage.TheVariants as stage
 use Rattle.tcc_rows.proofs.RecordingSteps.{adds-one, if-err-of, room-one}
 use Rattle.tcc_rows.proofs.recording.RecordingWithin.take_all.Goals as goal
 
@@ -23,6 +23,7 @@ loop-one-preserved g c =
       );
       rows = c.in_ok-take.ensures.taken.1 ∙ c.loop-one.invariant.rows;
       pending = c.in_ok-take.ensures.pending ∙ c.loop-one.invariant.pending;
+      followed = λ pending before. c.in_ok-take.ensures.followed pending (c.loop-one.invariant.followed pending before);
       continues =
           nested_on c.args.self.now.snapshot c.loop-one.self.snapshot c.take.new.self.snapshot c.loop-one.invariant.continues
           (subst (IsNested c.loop-one.self.snapshot) (sym c.in_ok-take.ensures.taken.0) (nested_transaction c.loop-one.self.snapshot c.in-Some.one.0 c.in-Some.one.1));
@@ -30,6 +31,9 @@ loop-one-preserved g c =
 
 pub returns-in_err-take-clause-pending : goal.returns-in_err-take-clause-pending
 returns-in_err-take-clause-pending g c = c.in_err-take.ensures.pending ∙ c.loop-one.invariant.pending
+
+pub returns-in_err-take-clause-followed : goal.returns-in_err-take-clause-followed
+returns-in_err-take-clause-followed g c pending before = c.in_err-take.ensures.followed pending (c.loop-one.invariant.followed pending before)
 
 pub returns-in_err-take-clause-part : goal.returns-in_err-take-clause-part
 returns-in_err-take-clause-part g c =

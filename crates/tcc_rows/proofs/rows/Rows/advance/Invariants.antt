@@ -4,7 +4,7 @@ use Rattle.tcc_rows.specs.Answers.{Answers}
 use Rattle.tcc_rows.specs.Lines.{Record}
 use Rattle.tcc_rows.specs.Reached.{StandsIn}
 use Rattle.tcc_txn.specs.declared.limits.Limits.{Limits}
-use Rattle.tcc_rows.specs.declared.rows.Stage.TheVariants as stage
+use Rattle.tcc_rows.specs.declared.rows.RowsStage.TheVariants as stage
 use Rattle.tcc_rows.proofs.rows.Rows.advance.Given as goal
 
 abbrev pub invariant-records : goal.invariant-records

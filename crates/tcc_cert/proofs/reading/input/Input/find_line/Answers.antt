@@ -47,7 +47,6 @@ reads-preserved g c =
       passed = c.reads.invariant.passed;
       number = c.reads.invariant.number;
       works = c.in-Ok.ensures.works ∙ c.reads.invariant.works;
-      slack = omega (arith, c.in-Ok.ensures.slack, c.reads.invariant.slack);
       within = omega (arith, long, ap length more.2, length-append held more.0);
       none = rw long (ap line_length front ∙ omega (arith, same, long, within, c.if-length-held.false));
       stays = λ at before.

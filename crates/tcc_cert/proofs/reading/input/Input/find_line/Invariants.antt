@@ -3,7 +3,6 @@ use Rattle.std.proofs.Common.{◌≡◌, ◌≤◌, ◌-◌, length, take}
 use Rattle.tcc_cert.specs.declared.reading.window.TheConstants.{WINDOW_BYTES}
 use Rattle.tcc_cert.specs.WindowBytes.{window_bytes}
 use Rattle.tcc_cert.specs.InputBytes.{IsAt}
-use Rattle.tcc_cert.specs.private.Slack.{KeepsSlack}
 use Rattle.tcc_cert.specs.Reading.{Position, line_length}
 use Rattle.tcc_cert.proofs.reading.input.Input.find_line.Given as goal
 
@@ -13,7 +12,6 @@ invariant-reads g l =
       passed : l.self.passed ≡ 0;
       number : l.self.number ≡ l.initial.self.number;
       works : l.self.source.failed ≡ l.initial.self.source.failed;
-      slack : KeepsSlack g.R.Read.remaining l.initial.self.source l.self.source;
       within : l.searched ≤ length (window_bytes l.self.window);
       none : line_length (take l.searched (window_bytes l.self.window)) ≡ l.searched;
       stays : (at : Position) → IsAt g.R.Read.remaining l.initial.self at → IsAt g.R.Read.remaining l.self at;

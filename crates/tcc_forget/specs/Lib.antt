@@ -1,0 +1,6 @@
+pub mod Covers
+pub mod Cases
+pub mod Sweeps
+pub mod Counters
+pub mod Slots
+pub mod private

@@ -1,0 +1,1 @@
+"""Judges folders of histories on several machines, by Dask.distributed."""

@@ -1,0 +1,1 @@
+"""Reads histories of Jepsen and Elle, and makes records of them."""

@@ -1,0 +1,1 @@
+"""Runs `tcc`, and reads what it answers."""

@@ -1,0 +1,1 @@
+"""Records what the clients of a store see."""

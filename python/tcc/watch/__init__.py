@@ -1,0 +1,1 @@
+"""Answers for a recording while it goes on."""
