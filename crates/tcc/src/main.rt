@@ -21,7 +21,7 @@ use tcc_run::{OpenGate, Options, run_explain, run_large};
 use tcc_survey_run::{SurveyOptions, run_survey, run_survey_watched};
 use tcc_verdict::run_check_large_watched;
 use tcc_watch_run::{run_quiet, run_watch};
-use watch::Watch;
+use watch::ShownProgress;
 use watched::{WatchedReader, WatchedWriter};
 
 /// What a run does while it reads its records.
@@ -36,7 +36,7 @@ struct Paths<'a> {
 
 /// The files at such paths.
 #[derive(Drop)]
-struct Files<'a> {
+struct OutputFiles<'a> {
     certificate: Option<ErrorReporter<'a, OutputFile>>,
     slice: Option<ErrorReporter<'a, OutputFile>>,
 }
@@ -48,17 +48,17 @@ fn run_shown<W: Write>(
     threads: &(impl Threads + Wait + Clock + Sync),
     options: Options,
     input: ErrorReporter<'_, RecordInput>,
-    files: Files<'_>,
+    files: OutputFiles<'_>,
     quiet: bool,
     out: &mut W,
 ) -> u8 {
-    let Files { certificate, slice } = files;
+    let OutputFiles { certificate, slice } = files;
     let mut certificate = certificate;
     let mut slice = slice;
     let mut notes = rt.stderr();
     let is_alone = certificate.is_none() && slice.is_none();
     let is_shown = is_waited_for(rt, input.stream());
-    let watch = Watch::new(threads, rt.stderr());
+    let watch = ShownProgress::new(threads, rt.stderr());
     let watch = &watch;
     thread::scope(thread::scope_env(), threads, move |scope| -> u8 {
         if is_shown {
@@ -98,7 +98,7 @@ fn explain_large<W: Write>(
     match open_outputs(rt, paths.certificate, paths.slice, input.stream()) {
         Ok(files) => {
             let (certificate, slice) = files;
-            let files = Files { certificate, slice };
+            let files = OutputFiles { certificate, slice };
             run_shown(rt, threads, options, input, files, quiet, out)
         }
         Err(error) => print_unopened(error.kind(), options.json, out),
@@ -217,7 +217,7 @@ fn survey_shown<W: Write>(
 ) -> u8 {
     let is_shown = is_waited_for(rt, input.stream());
     let size = size_of_input(input.stream());
-    let watch = Watch::new(threads, rt.stderr());
+    let watch = ShownProgress::new(threads, rt.stderr());
     let watch = &watch;
     thread::scope(thread::scope_env(), threads, move |scope| -> u8 {
         if is_shown {
@@ -263,7 +263,7 @@ fn watch_shown<W: Write>(
 ) -> u8 {
     let mut notes = rt.stderr();
     let is_shown = is_waited_for(rt, input.stream());
-    let watch = Watch::new(threads, rt.stderr());
+    let watch = ShownProgress::new(threads, rt.stderr());
     let watch = &watch;
     thread::scope(thread::scope_env(), threads, move |scope| -> u8 {
         if is_shown {
@@ -305,7 +305,7 @@ fn check_large<W: Write>(
     };
     let is_shown = are_waited_for(rt, history.stream(), certificate.stream());
     let sizes = (size_of(history.stream()), size_of(certificate.stream()));
-    let watch = Watch::new(threads, rt.stderr());
+    let watch = ShownProgress::new(threads, rt.stderr());
     let watch = &watch;
     thread::scope(thread::scope_env(), threads, move |scope| -> u8 {
         if is_shown {

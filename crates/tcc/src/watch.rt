@@ -4,7 +4,7 @@ use std::io::{self, Write};
 use std::sync::{Condvar, Mutex, Wait};
 use std::time::{Clock, Duration, Instant};
 use tcc_base::Progress;
-use tcc_run::{Gate, Stage, Watcher};
+use tcc_run::{Gate, RunStage, Watcher};
 
 /// For so many seconds of a run nothing is shown.
 const QUIET_SECONDS: u64 = 2;
@@ -26,7 +26,7 @@ struct Doing {
 
 /// What the line has.
 #[derive(Drop)]
-struct Line {
+struct StatusLine {
     errors: io::Stderr,
     /// What is shown once some time has passed; none while other things may be written.
     doing: Option<Doing>,
@@ -35,11 +35,11 @@ struct Line {
 }
 
 /// The words for what is being done.
-fn words(stage: Stage) -> &'static str {
+fn words(stage: RunStage) -> &'static str {
     match stage {
-        Stage::Reading => "reading records",
-        Stage::Deciding => "deciding",
-        Stage::Slicing => "cutting a slice",
+        RunStage::Reading => "reading records",
+        RunStage::Deciding => "deciding",
+        RunStage::Slicing => "cutting a slice",
     }
 }
 
@@ -48,7 +48,7 @@ fn percent(done: u64, all: u64) -> Option<u64> {
     done.min(all).checked_mul(100)?.checked_div(all)
 }
 
-impl Line {
+impl StatusLine {
     /// Shows what is being done, how far it is, if that is known, and for how many seconds the run has lasted. What is written next takes its place.
     fn show(&mut self, seconds: u64) {
         if let Some(Doing { words, done, all }) = self.doing {
@@ -72,21 +72,21 @@ impl Line {
 
 /// The watcher of a run, which one thread tells what it is doing and another one shows it.
 #[derive(Drop)]
-pub struct Watch<'a, R: Wait + Clock> {
+pub struct ShownProgress<'a, R: Wait + Clock> {
     rt: &'a R,
     /// None where the clock can't be read: then nothing is shown.
     start: Option<Instant>,
-    line: Mutex<Line>,
+    line: Mutex<StatusLine>,
     ended: Condvar,
 }
 
-impl<'a, R: Wait + Clock> Watch<'a, R> {
+impl<'a, R: Wait + Clock> ShownProgress<'a, R> {
     /// That of a run which begins now.
-    pub fn new(rt: &'a R, errors: io::Stderr) -> Watch<'a, R> {
-        Watch {
+    pub fn new(rt: &'a R, errors: io::Stderr) -> ShownProgress<'a, R> {
+        ShownProgress {
             rt,
             start: Instant::now(rt).ok(),
-            line: Mutex::new(Line {
+            line: Mutex::new(StatusLine {
                 errors,
                 doing: None,
                 is_shown: false,
@@ -152,12 +152,12 @@ impl<'a, R: Wait + Clock> Watch<'a, R> {
     }
 }
 
-impl<R: Wait + Clock + Sync> Gate for Watch<'_, R> {
+impl<R: Wait + Clock + Sync> Gate for ShownProgress<'_, R> {
     fn enter(&self, _worker: u32, _start: u32) {}
 }
 
-impl<R: Wait + Clock + Sync> Watcher for Watch<'_, R> {
-    fn begin(&self, stage: Stage) {
+impl<R: Wait + Clock + Sync> Watcher for ShownProgress<'_, R> {
+    fn begin(&self, stage: RunStage) {
         self.now(words(stage), 0);
     }
 
@@ -166,7 +166,7 @@ impl<R: Wait + Clock + Sync> Watcher for Watch<'_, R> {
     }
 }
 
-impl<R: Wait + Clock + Sync> Progress for Watch<'_, R> {
+impl<R: Wait + Clock + Sync> Progress for ShownProgress<'_, R> {
     fn done(&self, count: usize, all: usize) {
         let mut line = self.line.lock(self.rt);
         if let Some(doing) = &mut line.doing {

@@ -1,6 +1,6 @@
 //! Readers and writers that tell a watcher what a run is doing.
 
-use crate::watch::Watch;
+use crate::watch::ShownProgress;
 use std::io::{self, Read, Write};
 use std::sync::Wait;
 use std::time::Clock;
@@ -9,7 +9,7 @@ use std::time::Clock;
 #[derive(Drop)]
 pub struct WatchedReader<'a, R, T: Wait + Clock> {
     stream: R,
-    watch: &'a Watch<'a, T>,
+    watch: &'a ShownProgress<'a, T>,
     /// What the run does after the end of it.
     next: &'static str,
     words: &'static str,
@@ -21,7 +21,7 @@ impl<'a, R, T: Wait + Clock> WatchedReader<'a, R, T> {
     /// The stream, which has this many bytes, or 0 if nobody knows: the run does the one while it is read, and the other after that.
     pub fn new(
         stream: R,
-        watch: &'a Watch<'a, T>,
+        watch: &'a ShownProgress<'a, T>,
         words: &'static str,
         size: u64,
         next: &'static str,
@@ -59,11 +59,11 @@ impl<R: Read, T: Wait + Clock> Read for WatchedReader<'_, R, T> {
 #[derive(Drop)]
 pub struct WatchedWriter<'a, W, T: Wait + Clock> {
     stream: W,
-    watch: &'a Watch<'a, T>,
+    watch: &'a ShownProgress<'a, T>,
 }
 
 impl<'a, W, T: Wait + Clock> WatchedWriter<'a, W, T> {
-    pub fn new(stream: W, watch: &'a Watch<'a, T>) -> WatchedWriter<'a, W, T> {
+    pub fn new(stream: W, watch: &'a ShownProgress<'a, T>) -> WatchedWriter<'a, W, T> {
         WatchedWriter { stream, watch }
     }
 }

@@ -10,7 +10,7 @@ use crate::room::have_runs_text;
 use std::alloc::Global;
 use tcc_cert::{Links, LinksClaim, runs_of};
 use tcc_graph::{LargeGraph, Level, Link};
-use tcc_judge::{Verdict, judge_cycle};
+use tcc_judge::{LargeVerdict, judge_cycle};
 use tcc_lanes::MOST_STEPS;
 use tcc_txn::NoMemory;
 
@@ -63,7 +63,7 @@ pub fn proved_claim(
         return Ok(None);
     }
     match judge_cycle(alloc, graph, &claim)? {
-        Verdict::Accepted => Ok(Some(claim)),
-        Verdict::Rejected { .. } => Ok(None),
+        LargeVerdict::Accepted => Ok(Some(claim)),
+        LargeVerdict::Rejected { .. } => Ok(None),
     }
 }

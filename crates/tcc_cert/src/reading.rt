@@ -94,7 +94,7 @@ fn header<R: Read>(input: &mut Input<R>) -> Result<(Version, Level), CertFault>
 
 /// The links of a claim, and the rows of its tables.
 #[derive(Drop)]
-struct Tables {
+struct ReadTables {
     links: Vec<Link>,
     clocks: Vec<Numbers>,
     near: Vec<Numbers>,
@@ -118,7 +118,11 @@ fn push<R: Read, T: Drop>(
 }
 
 /// One more link, or one more row of the table that the part is of. A claim and the end are neither.
-fn keep<R: Read>(parts: &CertReader<R>, tables: &mut Tables, part: Part) -> Result<(), CertFault>
+fn keep<R: Read>(
+    parts: &CertReader<R>,
+    tables: &mut ReadTables,
+    part: Part,
+) -> Result<(), CertFault>
     ensures kept { OnOk result (HasRow part tables.old tables.new) }
     ensures refused { IfErr result (λ fault. fault ≡ record { line = line_wanted parts.now; kind = CertFaultKind.NoMemory }) }
     ensures counted { IfErr result (λ fault. 0 < fault.line) }
@@ -133,11 +137,11 @@ fn keep<R: Read>(parts: &CertReader<R>, tables: &mut Tables, part: Part) -> Resu
 }
 
 /// The links and rows that come after the claim.
-fn collect<R: Read>(alloc: Global, parts: &mut CertReader<R>) -> Result<Tables, CertFault>
+fn collect<R: Read>(alloc: Global, parts: &mut CertReader<R>) -> Result<ReadTables, CertFault>
     requires { is_new parts.old ≡ false }
     ensures { (ahead : Parts) → IsAhead R.remaining parts.old ahead → Collects ahead result }
 {
-    let mut tables = Tables {
+    let mut tables = ReadTables {
         links: Vec::new(alloc),
         clocks: Vec::new(alloc),
         near: Vec::new(alloc),

@@ -11,7 +11,7 @@ ghost use Rattle.tcc_core.specs.private.Offers.{IsLower, IsOffered, IsMarked, Is
 ghost use Rattle.tcc_txn.specs.declared.limits.TheConstants.{MAX_COUNT};
 
 use crate::bucket_queue::BUCKETS;
-use crate::levels::{Level, begin_levels, forget, offer_classes};
+use crate::levels::{CostMarks, begin_levels, forget, offer_classes};
 use crate::queue::Queue;
 use crate::relaxing::{offer_cheapest, offer_each, offer_within};
 use std::alloc::{AllocError, Global};
@@ -28,7 +28,7 @@ pub(crate) struct Frontier {
     /// For each session, at the index of its last transaction: from which transaction on all were reached by a session pair.
     marks: Vec<u32>,
     /// What is met at some costs: those of links that are in rows of marks.
-    levels: Vec<Level>,
+    levels: Vec<CostMarks>,
 }
 
 impl Model for Frontier {
@@ -65,7 +65,7 @@ fn are_classed(prices: &Prices, left: u32) -> bool
 /// the start upward, by links that cost at most `left`.
 fn offer_others(
     queue: &mut Queue,
-    levels: &mut [Level],
+    levels: &mut [CostMarks],
     prices: &Prices,
     start: u32,
     u: u32,

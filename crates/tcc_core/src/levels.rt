@@ -19,7 +19,7 @@ pub(crate) const LEVELS: usize = 16;
 
 /// What is met at a cost; cost 0 says nothing.
 #[derive(Drop)]
-pub(crate) struct Level {
+pub(crate) struct CostMarks {
     pub cost: u32,
     pub marks: Vec<u64>,
 }
@@ -35,7 +35,7 @@ fn wipe(marks: &mut [u64])
 }
 
 /// Rows with room for `count` transactions.
-pub(crate) fn begin_levels(alloc: Global, count: u32) -> Result<Vec<Level>, AllocError>
+pub(crate) fn begin_levels(alloc: Global, count: u32) -> Result<Vec<CostMarks>, AllocError>
     ensures room { IfOk result (λ levels. All (HasRoom count) levels.items) }
     ensures none { IfOk result (λ levels. All (λ level. level.cost ≡ 0) levels.items) }
     ensures long { IfOk result (λ levels. length levels.items ≡ LEVELS) }
@@ -43,13 +43,13 @@ pub(crate) fn begin_levels(alloc: Global, count: u32) -> Result<Vec<Level>, Allo
     let mut levels = Vec::new(alloc);
     for _level in 0..LEVELS {
         let marks = vec![in alloc; 0; words_for(count as usize)]?;
-        levels.push(Level { cost: 0, marks })?;
+        levels.push(CostMarks { cost: 0, marks })?;
     }
     Ok(levels)
 }
 
 /// From now on nothing is recorded as met.
-pub(crate) fn forget(levels: &mut [Level])
+pub(crate) fn forget(levels: &mut [CostMarks])
     ensures same { length levels.new ≡ length levels.old }
     ensures room { (n : ℕ) → All (HasRoom n) levels.old → All (HasRoom n) levels.new }
     ensures none { All (λ level. level.cost ≡ 0) levels.new }
@@ -60,7 +60,7 @@ pub(crate) fn forget(levels: &mut [Level])
 }
 
 /// Offers a way at this cost to everything from the start upward that the row marks, except what is met at it.
-fn offer_at(queue: &mut Queue, level: &mut Level, marks: &[u64], start: u32, cost: u32)
+fn offer_at(queue: &mut Queue, level: &mut CostMarks, marks: &[u64], start: u32, cost: u32)
     requires few { length queue.old.costs ≤ MAX_COUNT }
     requires level { IsLevel queue.old.costs level.old }
     requires wide { length marks.now ≡ words_for (length queue.old.costs) }
@@ -82,7 +82,7 @@ fn offer_at(queue: &mut Queue, level: &mut Level, marks: &[u64], start: u32, cos
 /// the start upward, by links that cost at most `left`.
 pub(crate) fn offer_classes(
     queue: &mut Queue,
-    levels: &mut [Level],
+    levels: &mut [CostMarks],
     classes: &[Class],
     start: u32,
     so_far: u32,

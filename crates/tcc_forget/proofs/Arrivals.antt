@@ -13,8 +13,8 @@ use Rattle.tcc_watch.specs.private.Rows.{IsRowOver}
 use Rattle.tcc_watch.proofs.Arrived.{count_more, more, new_entry, old_owner, old_place}
 use Rattle.tcc_forget.specs.Cases.{IsRightBefore, ReadsOutdated}
 use Rattle.tcc_forget.specs.Covers.{IsLastOf, IsReadable, LeadsTo}
-use Rattle.tcc_forget.specs.declared.at.At.{At}
-use Rattle.tcc_forget.specs.declared.slots.Reading.{Reading}
+use Rattle.tcc_forget.specs.declared.at.SessionPlace.{SessionPlace}
+use Rattle.tcc_forget.specs.declared.slots.SlotReading.{SlotReading}
 use Rattle.tcc_forget.specs.Slots.{AreExact, AreSlots, AreWide, CanArrive, Coming, HasArrived, IsReadingOf, SlotTables, after}
 use Rattle.tcc_forget.specs.private.Linking.{AreBetween, AreMade, AreParents, AreReadsDone, CanLinkReads, parents_in}
 use Rattle.tcc_forget.proofs.Linked.{between_first, exact_after, still_none}
@@ -22,24 +22,24 @@ use Rattle.tcc_forget.proofs.Through.{clock_right, clocks_more, rows_more}
 
 -- ---- lists
 
-later : (reads : List Reading) (read : Reading) (k : ℕ) → (r : Reading) × Contains reads r × (r.source ≡ Some k)
-    → (r : Reading) × Contains (read ∷ reads) r × (r.source ≡ Some k)
+later : (reads : List SlotReading) (read : SlotReading) (k : ℕ) → (r : SlotReading) × Contains reads r × (r.source ≡ Some k)
+    → (r : SlotReading) × Contains (read ∷ reads) r × (r.source ≡ Some k)
 later reads read k (r, (i, below, same), is) = (r, (suc i, omega (arith, below), same), is)
 
-in_sources : (reads : List Reading) (k : ℕ) → Contains (filter_map (λ read. read.source) reads) k → (r : Reading) × Contains reads r × (r.source ≡ Some k)
+in_sources : (reads : List SlotReading) (k : ℕ) → Contains (filter_map (λ read. read.source) reads) k → (r : SlotReading) × Contains reads r × (r.source ≡ Some k)
 in_sources [] k (i, below, is) = absurd (omega (arith, below))
 in_sources (read ∷ reads) k there = go read.source refl there (λ w. in_sources reads k w)
   where
     go : (o : Option ℕ) → read.source ≡ o → Contains (cons_option o (filter_map (λ r. r.source) reads)) k
-        → (Contains (filter_map (λ r. r.source) reads) k → (r : Reading) × Contains reads r × (r.source ≡ Some k))
-        → (r : Reading) × Contains (read ∷ reads) r × (r.source ≡ Some k)
+        → (Contains (filter_map (λ r. r.source) reads) k → (r : SlotReading) × Contains reads r × (r.source ≡ Some k))
+        → (r : SlotReading) × Contains (read ∷ reads) r × (r.source ≡ Some k)
     go None is c rest = later reads read k (rest c)
     go (Some n) is (zero, below, same) rest = (read, (0, omega arith, refl), is ∙ ap Some same)
     go (Some n) is (suc i, below, same) rest = later reads read k (rest (i, omega (arith, below), same))
 
-from_sources : (reads : List Reading) (r : Reading) (k : ℕ) → Contains reads r → r.source ≡ Some k → Contains (filter_map (λ read. read.source) reads) k
+from_sources : (reads : List SlotReading) (r : SlotReading) (k : ℕ) → Contains reads r → r.source ≡ Some k → Contains (filter_map (λ read. read.source) reads) k
 from_sources [] r k (i, below, here) is = absurd (omega (arith, below))
-from_sources (read ∷ reads) r k (zero, below, here) is = go read.source (ap (λ (z : Reading). z.source) here ∙ is)
+from_sources (read ∷ reads) r k (zero, below, here) is = go read.source (ap (λ (z : SlotReading). z.source) here ∙ is)
   where
     go : (o : Option ℕ) → o ≡ Some k → Contains (cons_option o (filter_map (λ r. r.source) reads)) k
     go o same = subst (λ (z : Option ℕ). Contains (cons_option z (filter_map (λ r. r.source) reads)) k) (sym same) (0, omega arith, refl)
@@ -61,7 +61,7 @@ some_or_none : (o : Option ℕ) → ((k : ℕ) × (o ≡ Some k)) ⊎ (o ≡ Non
 some_or_none None = inr refl
 some_or_none (Some k) = inl (k, refl)
 
-module _ (on : Coming) (t : SlotTables) (at : At) (last : Option ℕ) (reads : List Reading) (can : CanArrive on t at last reads) where
+module _ (on : Coming) (t : SlotTables) (at : SessionPlace) (last : Option ℕ) (reads : List SlotReading) (can : CanArrive on t at last reads) where
   abbrev h : History
   h = on.history
 
@@ -86,7 +86,7 @@ module _ (on : Coming) (t : SlotTables) (at : At) (last : Option ℕ) (reads : L
       other (inl top) = neither (inr top)
       other (inr (none, free)) = absurd (omega (arith, none, some))
 
-      go : (read : Reading) → IsReadingOf on.cover numbers x m read → ((k : ℕ) × (read.source ≡ Some k)) ⊎ (read.source ≡ None) → ⊥
+      go : (read : SlotReading) → IsReadingOf on.cover numbers x m read → ((k : ℕ) × (read.source ≡ Some k)) ⊎ (read.source ≡ None) → ⊥
       go read of (inl (k, is)) = neither (inl (of.source k is).2)
       go read of (inr is) = other (of.other is).1
 
@@ -125,7 +125,7 @@ module _ (on : Coming) (t : SlotTables) (at : At) (last : Option ℕ) (reads : L
       go (inr is) = absurd (can.latest.none is q is_last)
   parent_of q (inr (x, there, listed)) = let w = can.readings.all x q there in go w.0 w.1 w.2 (some_or_none w.0.source)
     where
-      go : (read : Reading) → Contains reads read → IsReadingOf on.cover numbers x q read → ((k : ℕ) × (read.source ≡ Some k)) ⊎ (read.source ≡ None)
+      go : (read : SlotReading) → Contains reads read → IsReadingOf on.cover numbers x q read → ((k : ℕ) × (read.source ≡ Some k)) ⊎ (read.source ≡ None)
           → (p : ℕ) × Contains parents p × (slice_index numbers p ≡ q)
       go read among of (inl (k, is)) =
           (k, Contains-append_right (option_to_list last) (filter_map (λ r. r.source) reads) k (from_sources reads read k among is), (of.source k is).1)
@@ -205,13 +205,13 @@ module _ (on : Coming) (t : SlotTables) (at : At) (last : Option ℕ) (reads : L
       entry_place : place g (count h) ≡ e.place
       entry_place = ap (λ (z : Entry). z.place) (new_entry h e (count h) refl)
 
-      abbrev ats : List At
+      abbrev ats : List SessionPlace
       ats = t.ats ++ at ∷ []
 
-      old_at : (i : ℕ) (d : At) → i < length numbers → slice_index_or ats i d ≡ slice_index_or t.ats i d
+      old_at : (i : ℕ) (d : SessionPlace) → i < length numbers → slice_index_or ats i d ≡ slice_index_or t.ats i d
       old_at i d inside = get_or-append t.ats (at ∷ []) d i (omega (arith, inside, can.tables.slots.long))
 
-      last_at : (i : ℕ) (d : At) → i ≡ length numbers → slice_index_or ats i d ≡ at
+      last_at : (i : ℕ) (d : SessionPlace) → i ≡ length numbers → slice_index_or ats i d ≡ at
       last_at i d is = get_or_push t.ats at d i (can.tables.slots.long ∙ sym is)
 
       slots : AreSlots g all ats
@@ -227,19 +227,19 @@ module _ (on : Coming) (t : SlotTables) (at : At) (last : Option ℕ) (reads : L
           is_below i (inl old) = omega (arith, old_number i old, below i old, count_more h e)
           is_below i (inr new) = omega (arith, last_number i new, count_more h e)
 
-          session : (i : ℕ) (d : At) → (i < length numbers) ⊎ (i ≡ length numbers) → (slice_index_or ats i d).session ≡ owner g (slice_index all i)
+          session : (i : ℕ) (d : SessionPlace) → (i < length numbers) ⊎ (i ≡ length numbers) → (slice_index_or ats i d).session ≡ owner g (slice_index all i)
           session i d (inl old) =
-              ap (λ (z : At). z.session) (old_at i d old) ∙ can.tables.slots.session i d old ∙ sym (old_owner h e (slice_index numbers i) (below i old))
+              ap (λ (z : SessionPlace). z.session) (old_at i d old) ∙ can.tables.slots.session i d old ∙ sym (old_owner h e (slice_index numbers i) (below i old))
               ∙ ap (λ z. owner g z) (sym (old_number i old))
           session i d (inr new) =
-              ap (λ (z : At). z.session) (last_at i d new) ∙ can.session ∙ sym entry_owner ∙ ap (λ z. owner g z) (sym (last_number i new))
+              ap (λ (z : SessionPlace). z.session) (last_at i d new) ∙ can.session ∙ sym entry_owner ∙ ap (λ z. owner g z) (sym (last_number i new))
 
-          is_place : (i : ℕ) (d : At) → (i < length numbers) ⊎ (i ≡ length numbers) → (slice_index_or ats i d).place ≡ place g (slice_index all i)
+          is_place : (i : ℕ) (d : SessionPlace) → (i < length numbers) ⊎ (i ≡ length numbers) → (slice_index_or ats i d).place ≡ place g (slice_index all i)
           is_place i d (inl old) =
-              ap (λ (z : At). z.place) (old_at i d old) ∙ can.tables.slots.place i d old ∙ sym (old_place h e (slice_index numbers i) (below i old))
+              ap (λ (z : SessionPlace). z.place) (old_at i d old) ∙ can.tables.slots.place i d old ∙ sym (old_place h e (slice_index numbers i) (below i old))
               ∙ ap (λ z. place g z) (sym (old_number i old))
           is_place i d (inr new) =
-              ap (λ (z : At). z.place) (last_at i d new) ∙ can.place ∙ sym entry_place ∙ ap (λ z. place g z) (sym (last_number i new))
+              ap (λ (z : SessionPlace). z.place) (last_at i d new) ∙ can.place ∙ sym entry_place ∙ ap (λ z. place g z) (sym (last_number i new))
 
           once : (i k : ℕ) → (i < length numbers) ⊎ (i ≡ length numbers) → (k < length numbers) ⊎ (k ≡ length numbers) → slice_index all i ≡ slice_index all k → i ≡ k
           once i k (inl old) (inl also) same = can.tables.slots.once i k old also (sym (old_number i old) ∙ same ∙ old_number k also)
@@ -272,7 +272,7 @@ module _ (on : Coming) (t : SlotTables) (at : At) (last : Option ℕ) (reads : L
           → HasArrived on new true
       arrived_as new same_sessions same_ats same_observed same_before =
           subst (λ (z : ℕ). HasArrived on (record { sessions = z; ats = new.ats; observed = new.observed; before = new.before }) true) (sym same_sessions)
-          (subst (λ (z : List At). HasArrived on (record { sessions = t.sessions; ats = z; observed = new.observed; before = new.before }) true) (sym same_ats)
+          (subst (λ (z : List SessionPlace). HasArrived on (record { sessions = t.sessions; ats = z; observed = new.observed; before = new.before }) true) (sym same_ats)
           (subst (λ (z : List (List ℕ)). HasArrived on (record { sessions = t.sessions; ats = ats; observed = z; before = new.before }) true) (sym same_observed)
           (subst (λ (z : List (List ℕ)). HasArrived on (record { sessions = t.sessions; ats = ats; observed = t.observed ++ clock ∷ []; before = z }) true)
           (sym same_before) arrived)))

@@ -6,7 +6,7 @@ use Rattle.std.proofs.lemmas.List.Elements.{Contains-get_or}
 use Rattle.std.proofs.lemmas.List.{get_or_default, get_or_read}
 use Rattle.tcc_reads.specs.History.{Entry, History}
 use Rattle.tcc_forget.specs.Cases.{Observes}
-use Rattle.tcc_forget.specs.declared.at.At.{At}
+use Rattle.tcc_forget.specs.declared.at.SessionPlace.{SessionPlace}
 use Rattle.tcc_forget.specs.Slots.{AreSlots, AreWide, Coming}
 use Rattle.tcc_forget.specs.private.Linking.{AreBetween, CanLink, CanLinkOne, CanSettle, IsClockOf, IsOutcome, Keeps, OrdersOne}
 use Rattle.tcc_forget.proofs.RaisedRows.{at_of, clock_false, clock_true}
@@ -30,7 +30,7 @@ upto_more listed P i b inside is before here k low = go (cases_eq k i)
 pub upto_all : (listed : List ℕ) (P : ℕ → Type 0) (i : ℕ) → length listed ≤ i → ((k : ℕ) → k < i → P (get_or listed k 0)) → (b : ℕ) → Contains listed b → P b
 upto_all listed P i past each b (k, inside, is) = subst P (get_or_default listed k 0 b inside ∙ is) (each k (omega (arith, inside, past)))
 
-module _ (h : History) (e : Entry) (numbers : List ℕ) (ats : List At) (clock : List ℕ) (slots : AreSlots h numbers ats) (clock_of : IsClockOf h e clock)
+module _ (h : History) (e : Entry) (numbers : List ℕ) (ats : List SessionPlace) (clock : List ℕ) (slots : AreSlots h numbers ats) (clock_of : IsClockOf h e clock)
     (b : ℕ) (below : b < length numbers) where
   pub seen : nat_le (at_of ats b).place (slice_index clock (at_of ats b).session) ≡ true → Observes h e (slice_index numbers b)
   seen test = (clock_of (slice_index numbers b) (slots.below b below)).0 (clock_true h numbers ats clock b slots below test)
@@ -48,7 +48,7 @@ outcome_more on old new P Q f false cycle = cycle
 pub keeps_on : (h : History) (first old new : List (List ℕ)) → length old ≡ length first → Keeps h first old → Keeps h old new → Keeps h first new
 keeps_on h first old new long p q u i at_u below r = q u i at_u (omega (arith, below, long)) (p u i at_u below r)
 
-module _ (on : Coming) (rows : List (List ℕ)) (ats : List At) (clock : List ℕ) (b a : ℕ) (can : CanLinkOne on rows ats clock b a) where
+module _ (on : Coming) (rows : List (List ℕ)) (ats : List SessionPlace) (clock : List ℕ) (b a : ℕ) (can : CanLinkOne on rows ats clock b a) where
   pub one_itself : b ≡ a → IsOutcome on rows rows (OrdersOne on rows b a) true
   one_itself same = (can.between, (λ u i at_u below p. p), λ apart. absurd (apart same))
 
@@ -69,7 +69,7 @@ module _ (on : Coming) (rows : List (List ℕ)) (ats : List At) (clock : List �
     link = can.link apart (seen on.history on.entry on.numbers ats clock can.slots can.clock_of b can.from test);
   }
 
-module _ (on : Coming) (first rows : List (List ℕ)) (ats : List At) (clock : List ℕ) (listed : List ℕ) (a i : ℕ) (can : CanLink on first ats clock listed a)
+module _ (on : Coming) (first rows : List (List ℕ)) (ats : List SessionPlace) (clock : List ℕ) (listed : List ℕ) (a i : ℕ) (can : CanLink on first ats clock listed a)
     (inside : i < length listed) (between : AreBetween on.history on.entry on.numbers rows) (wide : AreWide on.sessions rows) where
   among : Contains listed (get_or listed i 0)
   among = Contains-get_or listed i 0 inside

@@ -4,7 +4,7 @@ use Rattle.std.specs.List.{cons_option, filter_map}
 use Rattle.std.specs.Option.{option_to_list}
 use Rattle.std.proofs.lemmas.List.{take_more}
 use Rattle.std.proofs.lemmas.List.Elements.{filter_map-append}
-use Rattle.tcc_forget.specs.declared.slots.Reading.{Reading}
+use Rattle.tcc_forget.specs.declared.slots.SlotReading.{SlotReading}
 
 pub append_none : (xs : List ℕ) → xs ≡ xs ++ []
 append_none [] = refl
@@ -15,7 +15,7 @@ one_source None = refl
 one_source (Some k) = refl
 
 -- the sources of the first reads, and of one more
-pub sources_more : (first now : List ℕ) (reads : List Reading) (i : ℕ) (read : Reading) → i < length reads → read ≡ get_or reads i read
+pub sources_more : (first now : List ℕ) (reads : List SlotReading) (i : ℕ) (read : SlotReading) → i < length reads → read ≡ get_or reads i read
     → now ≡ first ++ filter_map (λ r. r.source) (take i reads)
     → now ++ option_to_list read.source ≡ first ++ filter_map (λ r. r.source) (take (i + 1) reads)
 sources_more first now reads i read inside is so_far =
@@ -23,6 +23,6 @@ sources_more first now reads i read inside is so_far =
     ∙ append_assoc first (filter_map (λ r. r.source) (take i reads)) (option_to_list read.source)
     ∙ ap (λ z. first ++ z)
     (ap (λ z. filter_map (λ r. r.source) (take i reads) ++ z) (one_source read.source)
-    ∙ ap (λ (z : Reading). filter_map (λ r. r.source) (take i reads) ++ filter_map (λ r. r.source) (z ∷ [])) is
+    ∙ ap (λ (z : SlotReading). filter_map (λ r. r.source) (take i reads) ++ filter_map (λ r. r.source) (z ∷ [])) is
     ∙ sym (filter_map-append (λ r. r.source) (take i reads) (get_or reads i read ∷ []))
     ∙ ap (λ z. filter_map (λ r. r.source) z) (sym (take_more reads i read inside)))

@@ -10,7 +10,7 @@ use Rattle.tcc_graph.specs.Tables.{row_of}
 use Rattle.tcc_watch.specs.Delivered.{with_last}
 use Rattle.tcc_watch.specs.private.Rows.{IsPlaceOf, IsRouted}
 use Rattle.tcc_forget.specs.Covers.{LeadsTo}
-use Rattle.tcc_forget.specs.declared.at.At.{At}
+use Rattle.tcc_forget.specs.declared.at.SessionPlace.{SessionPlace}
 use Rattle.tcc_forget.specs.Slots.{AreSlots, AreWide, Reaches}
 use Rattle.tcc_forget.specs.private.Linking.{AreBetween, AreRaised, GoesTo, IsRaisedRow, Keeps}
 use Rattle.tcc_forget.proofs.Leading.{around, leads_join}
@@ -22,13 +22,13 @@ either a b = go (cases_lt a b)
     go (inl less) = inr (omega arith)
     go (inr more) = inl (omega arith)
 
-module _ (h : History) (e : Entry) (numbers : List ℕ) (ats : List At) (old new : List (List ℕ)) (b a : ℕ) (slots : AreSlots h numbers ats)
+module _ (h : History) (e : Entry) (numbers : List ℕ) (ats : List SessionPlace) (old new : List (List ℕ)) (b a : ℕ) (slots : AreSlots h numbers ats)
     (was : AreBetween h e numbers old) (at_b : b < length numbers) (at_a : a < length numbers)
     (raised : AreRaised (slice_index_or ats a (record { session = 0; place = 0 })) (row_of old b) old new) where
   abbrev n : ℕ → ℕ
   n i = slice_index numbers i
 
-  abbrev at : At
+  abbrev at : SessionPlace
   at = slice_index_or ats a (record { session = 0; place = 0 })
 
   -- one comparison of a row with the place of `a`
@@ -161,10 +161,10 @@ module _ (h : History) (e : Entry) (numbers : List ℕ) (rows : List (List ℕ))
   settled_cycle link up = around (with_last h e) (slice_index numbers b) (slice_index numbers a) link (was.sound (slice_index numbers a) b below at_b up)
 
 -- what a comparison of a row says
-abbrev pub at_of : List At → ℕ → At
+abbrev pub at_of : List SessionPlace → ℕ → SessionPlace
 at_of ats n = get_or ats n (record { session = 0; place = 0 })
 
-module _ (h : History) (numbers : List ℕ) (ats : List At) (rows : List (List ℕ)) (n i : ℕ) (d : List ℕ) (slots : AreSlots h numbers ats)
+module _ (h : History) (numbers : List ℕ) (ats : List SessionPlace) (rows : List (List ℕ)) (n i : ℕ) (d : List ℕ) (slots : AreSlots h numbers ats)
     (below : n < length numbers) (inside : i < length rows) where
   same_test : nat_le (at_of ats n).place (slice_index (get_or rows i d) (at_of ats n).session)
       ≡ nat_le (place h (slice_index numbers n)) (slice_index (row_of rows i) (owner h (slice_index numbers n)))
@@ -184,11 +184,11 @@ module _ (h : History) (numbers : List ℕ) (ats : List At) (rows : List (List �
       absurd (omega (arith, over, up))
 
 -- rows of one width stay so
-pub wide_stay : (sessions : ℕ) (a : At) (row : List ℕ) (old new : List (List ℕ)) → AreWide sessions old → AreRaised a row old new → AreWide sessions new
+pub wide_stay : (sessions : ℕ) (a : SessionPlace) (row : List ℕ) (old new : List (List ℕ)) → AreWide sessions old → AreRaised a row old new → AreWide sessions new
 wide_stay sessions a row old new wide raised i below = raised.wide i ∙ wide i (omega (arith, below, raised.long))
 
 -- and what one of a clock says
-module _ (h : History) (numbers : List ℕ) (ats : List At) (clock : List ℕ) (n : ℕ) (slots : AreSlots h numbers ats) (below : n < length numbers) where
+module _ (h : History) (numbers : List ℕ) (ats : List SessionPlace) (clock : List ℕ) (n : ℕ) (slots : AreSlots h numbers ats) (below : n < length numbers) where
   clock_test : nat_le (at_of ats n).place (slice_index clock (at_of ats n).session)
       ≡ nat_le (place h (slice_index numbers n)) (slice_index clock (owner h (slice_index numbers n)))
   clock_test =

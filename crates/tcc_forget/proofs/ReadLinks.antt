@@ -10,8 +10,8 @@ use Rattle.tcc_graph.specs.Tables.{row_of}
 use Rattle.tcc_watch.specs.private.Rows.{IsRouted}
 use Rattle.tcc_forget.specs.Cases.{Forgotten, Initial, IsOutdated, Observes, Passed}
 use Rattle.tcc_forget.specs.Covers.{IsCover}
-use Rattle.tcc_forget.specs.declared.at.At.{At}
-use Rattle.tcc_forget.specs.declared.slots.Reading.{Reading}
+use Rattle.tcc_forget.specs.declared.at.SessionPlace.{SessionPlace}
+use Rattle.tcc_forget.specs.declared.slots.SlotReading.{SlotReading}
 use Rattle.tcc_forget.specs.Slots.{AreWide, IsReadingOf, Coming, Reaches, after}
 use Rattle.tcc_forget.specs.private.Linking.{AreBetween, AreLinking, AreReadsDone, CanLink, CanLinkReads, CanLinkAt, CanLinkRead, IsDoneBy, IsPassedBy, Keeps, IsOutcome, IsReadDone, OrdersListed, OrdersRead, Reads}
 use Rattle.tcc_forget.proofs.Arriving.{pair_of_read, writer_stays}
@@ -19,7 +19,7 @@ use Rattle.tcc_forget.proofs.Leading.{derived_link}
 use Rattle.tcc_forget.proofs.Lists.{none_is}
 use Rattle.tcc_forget.proofs.Outdated.{outdated_cycle}
 
-module _ (reads : Reads) (rows : List (List ℕ)) (ats : List At) (clock : List ℕ) (read : Reading) (at_it : CanLinkAt reads rows ats clock read) where
+module _ (reads : Reads) (rows : List (List ℕ)) (ats : List SessionPlace) (clock : List ℕ) (read : SlotReading) (at_it : CanLinkAt reads rows ats clock read) where
   can : AreLinking reads.on rows ats clock
   can = at_it.linking
 
@@ -113,7 +113,7 @@ module _ (reads : Reads) (rows : List (List ℕ)) (ats : List At) (clock : List 
 
 -- ---- a read, whichever it is
 
-module _ (on : Coming) (rows : List (List ℕ)) (ats : List At) (clock : List ℕ) (read : Reading) (can : CanLinkRead on rows ats clock read) where
+module _ (on : Coming) (rows : List (List ℕ)) (ats : List SessionPlace) (clock : List ℕ) (read : SlotReading) (can : CanLinkRead on rows ats clock read) where
   at_key : (key : List ℕ) (a : ℕ) → Contains on.entry.reads (key, a) → IsReadingOf on.cover on.numbers key a read
       → CanLinkAt (record { on = on; key = key; a = a }) rows ats clock read
   at_key key a there reading = record { linking = can.linking; there = there; reading = reading }
@@ -147,8 +147,8 @@ module _ (on : Coming) (rows : List (List ℕ)) (ats : List At) (clock : List �
 
 -- ---- all reads
 
-module _ (on : Coming) (first rows : List (List ℕ)) (ats : List At) (clock : List ℕ) (reads : List Reading) (can : CanLinkReads on first ats clock reads) where
-  module _ (i : ℕ) (read : Reading) (inside : i < length reads) (is : read ≡ get_or reads i read) (between : AreBetween on.history on.entry on.numbers rows)
+module _ (on : Coming) (first rows : List (List ℕ)) (ats : List SessionPlace) (clock : List ℕ) (reads : List SlotReading) (can : CanLinkReads on first ats clock reads) where
+  module _ (i : ℕ) (read : SlotReading) (inside : i < length reads) (is : read ≡ get_or reads i read) (between : AreBetween on.history on.entry on.numbers rows)
       (wide : AreWide on.sessions rows) where
     pub reads_one : CanLinkRead on rows ats clock read
     reads_one = record {
@@ -165,7 +165,7 @@ module _ (on : Coming) (first rows : List (List ℕ)) (ats : List At) (clock : L
     }
 
     -- what is done stays done
-    stays : (new : List (List ℕ)) → Keeps on.history rows new → (r : Reading) → IsDoneBy on rows r → IsDoneBy on new r
+    stays : (new : List (List ℕ)) → Keeps on.history rows new → (r : SlotReading) → IsDoneBy on rows r → IsDoneBy on new r
     stays new keeps r done key a there reading =
         let w = done key a there reading in (
           w.0,
@@ -174,17 +174,17 @@ module _ (on : Coming) (first rows : List (List ℕ)) (ats : List At) (clock : L
         )
 
     pub reads_more : (new : List (List ℕ)) → Keeps on.history rows new → IsDoneBy on new read
-        → ((k : ℕ) (d : Reading) → k < i → k < length reads → IsDoneBy on rows (get_or reads k d))
-        → (k : ℕ) (d : Reading) → k < i + 1 → k < length reads → IsDoneBy on new (get_or reads k d)
+        → ((k : ℕ) (d : SlotReading) → k < i → k < length reads → IsDoneBy on rows (get_or reads k d))
+        → (k : ℕ) (d : SlotReading) → k < i + 1 → k < length reads → IsDoneBy on new (get_or reads k d)
     reads_more new keeps here before k d low within = go (cases_eq k i)
       where
         go : (k ≡ i) ⊎ (k ≡ i → ⊥) → IsDoneBy on new (get_or reads k d)
         go (inl same) =
-            subst (λ (r : Reading). IsDoneBy on new r) (get_or_read reads i read inside is d ∙ ap (λ z. get_or reads z d) (sym same)) here
+            subst (λ (r : SlotReading). IsDoneBy on new r) (get_or_read reads i read inside is d ∙ ap (λ z. get_or reads z d) (sym same)) here
         go (inr apart) = stays new keeps (get_or reads k d) (before k d (omega (arith, low, apart)) within)
 
-  pub all_reads : (i : ℕ) → length reads ≤ i → ((k : ℕ) (d : Reading) → k < i → k < length reads → IsDoneBy on rows (get_or reads k d)) → AreReadsDone on rows
+  pub all_reads : (i : ℕ) → length reads ≤ i → ((k : ℕ) (d : SlotReading) → k < i → k < length reads → IsDoneBy on rows (get_or reads k d)) → AreReadsDone on rows
   all_reads i past each key a there =
       let w = can.readings.all key a there in
-      let here : IsDoneBy on rows w.0 = subst (λ (r : Reading). IsDoneBy on rows r) w.1.2 (each w.1.0 w.0 (omega (arith, w.1.1, past)) w.1.1) in
+      let here : IsDoneBy on rows w.0 = subst (λ (r : SlotReading). IsDoneBy on rows r) w.1.2 (each w.1.0 w.0 (omega (arith, w.1.1, past)) w.1.1) in
       here key a there w.2

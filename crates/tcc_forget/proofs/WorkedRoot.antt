@@ -1,6 +1,6 @@
 -- An old writer that is overwritten for one key and not for another, worked out by hand. First a/1 writes x and z, and b/1 writes x.
 -- Then c/1 reads x from b/1 and writes y and z. By d/1, which reads z from a/1 and x from b/1, a/1 is before b/1, and thus before c/1.
--- Then d/2 writes x, and a/2, b/2 and c/2 read that. Now all know a/1, but not c/1, which writes z too. At last a/3 reads y from c/1 and z
+-- Then d/2 writes x, and a/2, b/2 and c/2 read that. Now all know a/1, but not c/1, which writes z too. SessionPlace last a/3 reads y from c/1 and z
 -- from a/1, a contradiction. It shows only if z still has both.
 use Rattle.std.proofs.Common.{ℕ, zero, suc, ◌≡◌, inl, inr, List, [], ◌∷◌, None, Some, refl, arith}
 use Rattle.std.specs.Prelude.{bytes_eq, codes, if◌then◌else◌}

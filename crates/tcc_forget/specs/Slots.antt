@@ -6,8 +6,8 @@ use Rattle.tcc_graph.specs.Routes.{HasCycle}
 use Rattle.tcc_graph.specs.Tables.{row_of}
 use Rattle.tcc_watch.specs.Delivered.{IsDelivered, with_last}
 use Rattle.tcc_forget.specs.Covers.{ComesOn, Cover, Covers, HasObserved, IsLastOf, LeadsTo}
-use Rattle.tcc_forget.specs.declared.at.At.{At}
-use Rattle.tcc_forget.specs.declared.slots.Reading.{Reading}
+use Rattle.tcc_forget.specs.declared.at.SessionPlace.{SessionPlace}
+use Rattle.tcc_forget.specs.declared.slots.SlotReading.{SlotReading}
 use Rattle.tcc_forget.specs.declared.slots.Slots.{Slots}
 
 -- so it goes to a transaction, by one comparison
@@ -23,11 +23,11 @@ abbrev pub ArePlaced : History → List (List ℕ) → Type 0
 ArePlaced h rows = (i session : ℕ) → i < length rows → IsSomePlace h session (slice_index (row_of rows i) session)
 
 -- the slots have these transactions, by number, each at its place
-pub record AreSlots (h : History) (numbers : List ℕ) (ats : List At) : Type 0 where
+pub record AreSlots (h : History) (numbers : List ℕ) (ats : List SessionPlace) : Type 0 where
   pub long : length ats ≡ length numbers
   pub below : (i : ℕ) → i < length numbers → slice_index numbers i < count h
-  pub session : (i : ℕ) (d : At) → i < length numbers → (slice_index_or ats i d).session ≡ owner h (slice_index numbers i)
-  pub place : (i : ℕ) (d : At) → i < length numbers → (slice_index_or ats i d).place ≡ place h (slice_index numbers i)
+  pub session : (i : ℕ) (d : SessionPlace) → i < length numbers → (slice_index_or ats i d).session ≡ owner h (slice_index numbers i)
+  pub place : (i : ℕ) (d : SessionPlace) → i < length numbers → (slice_index_or ats i d).place ≡ place h (slice_index numbers i)
   pub once : (i k : ℕ) → i < length numbers → k < length numbers → slice_index numbers i ≡ slice_index numbers k → i ≡ k
 
 -- a live session has a transaction that may come: with the history before it, and what is kept of that
@@ -60,21 +60,21 @@ AreKept cover numbers = (x : List ℕ) (b : ℕ) → Contains (cover x).listed b
 
 -- a read of the key from a, by the slots of the writers that are listed there. Where a isn't listed, it's the top; or `init`, where the key
 -- has none
-pub record IsReadingOf (cover : Cover) (numbers : List ℕ) (key : List ℕ) (a : ℕ) (read : Reading) : Type 0 where
+pub record IsReadingOf (cover : Cover) (numbers : List ℕ) (key : List ℕ) (a : ℕ) (read : SlotReading) : Type 0 where
   pub inside : (k : ℕ) → Contains read.listed.items k → (k < length numbers) × Contains (cover key).listed (slice_index numbers k)
   pub all : (b : ℕ) → Contains (cover key).listed b → (k : ℕ) × Contains read.listed.items k × (slice_index numbers k ≡ b)
   pub source : (k : ℕ) → read.source ≡ Some k → (k < length numbers) × (slice_index numbers k ≡ a) × Contains (cover key).listed a
   pub other : read.source ≡ None → (Contains (cover key).listed a → ⊥) × (((cover key).top ≡ Some a) ⊎ ((a ≡ 0) × ((cover key).top ≡ None)))
 
 -- these are all of its reads
-pub record AreReadings (on : Coming) (reads : List Reading) : Type 0 where
-  pub each : (read : Reading) → Contains reads read → (key : List ℕ) × (a : ℕ) × Contains on.entry.reads (key, a) × IsReadingOf on.cover on.numbers key a read
-  pub all : (key : List ℕ) (a : ℕ) → Contains on.entry.reads (key, a) → (read : Reading) × Contains reads read × IsReadingOf on.cover on.numbers key a read
+pub record AreReadings (on : Coming) (reads : List SlotReading) : Type 0 where
+  pub each : (read : SlotReading) → Contains reads read → (key : List ℕ) × (a : ℕ) × Contains on.entry.reads (key, a) × IsReadingOf on.cover on.numbers key a read
+  pub all : (key : List ℕ) (a : ℕ) → Contains on.entry.reads (key, a) → (read : SlotReading) × Contains reads read × IsReadingOf on.cover on.numbers key a read
 
 -- what is kept of each transaction, by slot: where it is, what it has observed, and what comes before it
 pub record SlotTables : Type 0 where
   pub sessions : ℕ
-  pub ats : List At
+  pub ats : List SessionPlace
   pub observed : List (List ℕ)
   pub before : List (List ℕ)
 
@@ -95,7 +95,7 @@ pub record IsLastSlot (h : History) (numbers : List ℕ) (session : ℕ) (last :
   pub none : last ≡ None → (l : ℕ) → IsLastOf h session l → ⊥
 
 -- a transaction may come, at this place, with these reads
-pub record CanArrive (on : Coming) (t : SlotTables) (at : At) (last : Option ℕ) (reads : List Reading) : Type 0 where
+pub record CanArrive (on : Coming) (t : SlotTables) (at : SessionPlace) (last : Option ℕ) (reads : List SlotReading) : Type 0 where
   pub tables : AreTables on.history on.numbers t
   pub delivered : IsDelivered on.history
   pub none : HasCycle (causally on.history) → ⊥

@@ -2,7 +2,7 @@
 
 /// The number of its session, and its place there, from 1.
 #[derive(Clone, Copy, Debug, PartialEq, Eq)]
-pub struct At {
+pub struct SessionPlace {
     pub session: u32,
     pub place: u32,
 }

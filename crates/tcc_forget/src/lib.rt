@@ -11,6 +11,6 @@ pub mod laws;
 mod reach;
 mod slots;
 
-pub use at::At;
+pub use at::SessionPlace;
 pub use counters::{CounterFault, Counters};
-pub use slots::{Reading, Slots};
+pub use slots::{SlotReading, Slots};

@@ -3,18 +3,18 @@ ghost use Rattle.std.specs.Prelude.{◌≡◌, ◌≤◌, ◌<◌, ◌==◌, nat
 ghost use Rattle.tcc_watch.specs.private.Rows.{IsRowOver};
 ghost use Rattle.tcc_forget.specs.Slots.{AreWide};
 
-use crate::at::At;
+use crate::at::SessionPlace;
 use std::alloc::Global;
 use std::marker::Model;
 use tcc_txn::NoMemory;
 
 /// Of each session a place, or 0 where there is none.
 #[derive(Drop)]
-pub(crate) struct Reach {
+pub(crate) struct ReachRow {
     places: Vec<u32>,
 }
 
-impl Model for Reach {
+impl Model for ReachRow {
     ghost use Rattle.std.specs.Prelude.{ℕ, List};
 
     ghost Value = { List ℕ };
@@ -32,19 +32,19 @@ fn raise_each(places: &mut [u32], other: &[u32])
     }
 }
 
-impl Reach {
+impl ReachRow {
     /// None of so many sessions.
-    pub(crate) fn new(alloc: Global, sessions: usize) -> Result<Reach, NoMemory>
+    pub(crate) fn new(alloc: Global, sessions: usize) -> Result<ReachRow, NoMemory>
         ensures long { IfOk result (λ row. length row ≡ sessions) }
         ensures none { IfOk result (λ row. (session : ℕ) → slice_index row session ≡ 0) }
     {
-        Ok(Reach {
+        Ok(ReachRow {
             places: vec![in alloc; 0u32; sessions]?,
         })
     }
 
     /// Whether it goes to a place of its session.
-    pub(crate) fn goes_to(&self, at: At) -> bool
+    pub(crate) fn goes_to(&self, at: SessionPlace) -> bool
         ensures { result ≡ nat_le at.place (slice_index self.now at.session) }
     {
         match self.places.get(at.session as usize) {
@@ -54,16 +54,16 @@ impl Reach {
     }
 
     /// An equal row.
-    pub(crate) fn copy(&self, alloc: Global) -> Result<Reach, NoMemory>
+    pub(crate) fn copy(&self, alloc: Global) -> Result<ReachRow, NoMemory>
         ensures { IfOk result (λ copy. copy ≡ self.now) }
     {
-        Ok(Reach {
+        Ok(ReachRow {
             places: self.places.as_slice().to_vec(alloc)?,
         })
     }
 
     /// Goes as far as another, where that goes further.
-    pub(crate) fn raise(&mut self, other: &Reach)
+    pub(crate) fn raise(&mut self, other: &ReachRow)
         requires { length other.now ≡ length self.old }
         ensures long { length self.new ≡ length self.old }
         ensures raised { (session : ℕ) → slice_index self.new session ≡ max (slice_index other.now session) (slice_index self.old session) }
@@ -72,7 +72,7 @@ impl Reach {
     }
 
     /// Goes to this place of its session, and as far as before in others.
-    pub(crate) fn put(&mut self, at: At)
+    pub(crate) fn put(&mut self, at: SessionPlace)
         requires { at.session < length self.old }
         ensures long { length self.new ≡ length self.old }
         ensures put { (session : ℕ) → slice_index self.new session ≡ (if session == at.session then at.place else slice_index self.old session) }
@@ -85,17 +85,17 @@ impl Reach {
 pub(crate) fn row_over(
     alloc: Global,
     sessions: usize,
-    rows: &[Reach],
+    rows: &[ReachRow],
     parents: &[u32],
-    at: At,
-) -> Result<Reach, NoMemory>
+    at: SessionPlace,
+) -> Result<ReachRow, NoMemory>
     requires inside { All (λ p. p < length rows.now) parents.now }
     requires wide { AreWide sessions rows.now }
     requires own { at.session < sessions }
     ensures over { IfOk result (IsRowOver rows.now parents.now at.session at.place) }
     ensures long { IfOk result (λ row. length row ≡ sessions) }
 {
-    let mut row = Reach::new(alloc, sessions)?;
+    let mut row = ReachRow::new(alloc, sessions)?;
     for parent in parents {
         row.raise(&rows[*parent as usize]);
     }

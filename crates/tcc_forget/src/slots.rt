@@ -8,21 +8,21 @@ ghost use Rattle.tcc_graph.specs.Tables.{row_of};
 ghost use Rattle.tcc_forget.specs.Slots.{AreWide, AreTables, CanArrive, Coming, HasArrived, Reaches, tables_of};
 ghost use Rattle.tcc_forget.specs.private.Linking.{AreRaised, AreReadsDone, CanCompare, CanLink, CanLinkOne, CanLinkRead, CanLinkReads, CanSettle, IsDoneBy, IsOutcome, IsPassedBy, OrdersListed, OrdersOne, parents_in};
 
-use crate::at::At;
-use crate::reach::{Reach, row_over};
+use crate::at::SessionPlace;
+use crate::reach::{ReachRow, row_over};
 use std::alloc::Global;
 use tcc_txn::NoMemory;
 
 /// A read of a key by a transaction that comes: the slots of the writers that are listed there, and which of them it reads from. There is
 /// no such source where it reads from the top of the key or from `init`.
 #[derive(Drop)]
-pub struct Reading {
+pub struct SlotReading {
     pub source: Option<u32>,
     pub listed: Vec<u32>,
 }
 
 /// Raises each row that goes to a place.
-fn raise(rows: &mut [Reach], row: &Reach, a: At)
+fn raise(rows: &mut [ReachRow], row: &ReachRow, a: SessionPlace)
     ghost sessions: { ℕ }
     requires wide { AreWide sessions rows.old }
     requires long { length row.now ≡ sessions }
@@ -36,7 +36,13 @@ fn raise(rows: &mut [Reach], row: &Reach, a: At)
 }
 
 /// Makes `b` come before `a`, unless it does already; false where `a` comes before `b`.
-fn settle(alloc: Global, rows: &mut [Reach], ats: &[At], b: u32, a: u32) -> Result<bool, NoMemory>
+fn settle(
+    alloc: Global,
+    rows: &mut [ReachRow],
+    ats: &[SessionPlace],
+    b: u32,
+    a: u32,
+) -> Result<bool, NoMemory>
     ghost on: { Coming }
     requires { CanSettle on rows.old ats.now b a }
     ensures done { IfOk result (IsOutcome on rows.old rows.new (Reaches on.history (row_of rows.new a) (slice_index on.numbers b))) }
@@ -54,7 +60,7 @@ fn settle(alloc: Global, rows: &mut [Reach], ats: &[At], b: u32, a: u32) -> Resu
 }
 
 /// Whether a clock goes to one of the listed writers of a key.
-fn is_passed(ats: &[At], clock: &Reach, listed: &[u32]) -> bool
+fn is_passed(ats: &[SessionPlace], clock: &ReachRow, listed: &[u32]) -> bool
     ghost on: { Coming }
     requires { CanCompare on ats.now clock.now listed.now }
     ensures { IsPassedBy on listed.now result }
@@ -70,9 +76,9 @@ fn is_passed(ats: &[At], clock: &Reach, listed: &[u32]) -> bool
 /// Makes `b` come before `a` if it is another one and a clock goes to it; false where that closes a cycle.
 fn link_one(
     alloc: Global,
-    rows: &mut [Reach],
-    ats: &[At],
-    clock: &Reach,
+    rows: &mut [ReachRow],
+    ats: &[SessionPlace],
+    clock: &ReachRow,
     b: u32,
     a: u32,
 ) -> Result<bool, NoMemory>
@@ -93,9 +99,9 @@ fn link_one(
 /// Makes the listed writers of a key to which a clock goes come before `a`, one of them; false where that closes a cycle.
 fn link_listed(
     alloc: Global,
-    rows: &mut [Reach],
-    ats: &[At],
-    clock: &Reach,
+    rows: &mut [ReachRow],
+    ats: &[SessionPlace],
+    clock: &ReachRow,
     listed: &[u32],
     a: u32,
 ) -> Result<bool, NoMemory>
@@ -115,10 +121,10 @@ fn link_listed(
 /// Makes the links of a read; false where it contradicts, or where one of them closes a cycle.
 fn link_read(
     alloc: Global,
-    rows: &mut [Reach],
-    ats: &[At],
-    clock: &Reach,
-    read: &Reading,
+    rows: &mut [ReachRow],
+    ats: &[SessionPlace],
+    clock: &ReachRow,
+    read: &SlotReading,
 ) -> Result<bool, NoMemory>
     ghost on: { Coming }
     requires { CanLinkRead on rows.old ats.now clock.now read.now }
@@ -134,10 +140,10 @@ fn link_read(
 /// Makes the links of all reads; false where one of them contradicts, or where a link closes a cycle.
 fn link_reads(
     alloc: Global,
-    rows: &mut [Reach],
-    ats: &[At],
-    clock: &Reach,
-    reads: &[Reading],
+    rows: &mut [ReachRow],
+    ats: &[SessionPlace],
+    clock: &ReachRow,
+    reads: &[SlotReading],
 ) -> Result<bool, NoMemory>
     ghost on: { Coming }
     requires { CanLinkReads on rows.old ats.now clock.now reads.now }
@@ -163,7 +169,7 @@ fn push_some(slots: &mut Vec<u32>, slot: Option<u32>) -> Result<(), NoMemory>
 }
 
 /// The slots of what is right before a transaction: the last one of its session, and the listed writers that it reads from.
-fn parents(alloc: Global, last: Option<u32>, reads: &[Reading]) -> Result<Vec<u32>, NoMemory>
+fn parents(alloc: Global, last: Option<u32>, reads: &[SlotReading]) -> Result<Vec<u32>, NoMemory>
     ensures { IfOk result (λ parents. parents.items ≡ parents_in last reads.now) }
 {
     let mut parents = Vec::new(alloc);
@@ -178,9 +184,9 @@ fn parents(alloc: Global, last: Option<u32>, reads: &[Reading]) -> Result<Vec<u3
 #[derive(Drop)]
 pub struct Slots {
     sessions: usize,
-    ats: Vec<At>,
-    observed: Vec<Reach>,
-    before: Vec<Reach>,
+    ats: Vec<SessionPlace>,
+    observed: Vec<ReachRow>,
+    before: Vec<ReachRow>,
 }
 
 impl Slots {
@@ -202,9 +208,9 @@ impl Slots {
     pub fn arrive(
         &mut self,
         alloc: Global,
-        at: At,
+        at: SessionPlace,
         last: Option<u32>,
-        reads: &[Reading],
+        reads: &[SlotReading],
     ) -> Result<bool, NoMemory>
         ghost on: { Coming }
         requires { CanArrive on (tables_of self.old) at last reads.now }

@@ -16,8 +16,8 @@ use Rattle.tcc_least.specs.Shapes.{NoneBelow}
 use Rattle.tcc_judge.specs.Cycles.{BreaksOnward, HasLinksSizes, IsRightCycle}
 use Rattle.tcc_judge.specs.Spanned.{AreFew, HasFewMembers, IsBounded, IsMember, IsSpanned, IsStaleKey}
 use Rattle.tcc_judge.specs.Verdicts.{cycle_rules, least_rules, least_rules_of, links_rules}
-use Rattle.tcc_judge.specs.declared.verdict.Rule.{Rule}
-use Rattle.tcc_judge.specs.declared.verdict.Rule.TheVariants.{Sizes, Onward, Limits, Cheaper}
+use Rattle.tcc_judge.specs.declared.verdict.LargeRule.{LargeRule}
+use Rattle.tcc_judge.specs.declared.verdict.LargeRule.TheVariants.{Sizes, Onward, Limits, Cheaper}
 use Rattle.tcc_rules.specs.declared.verdict.Verdict.{Verdict}
 use Rattle.tcc_rules.specs.Asked.{IsFirstBroken, IsVerdictOf, as_whole, at_each}
 use Rattle.tcc_rules.proofs.Asked.{answer_later}
@@ -37,7 +37,7 @@ use Rattle.tcc_judge.proofs.Everything.{never_read}
 use Rattle.tcc_judge.proofs.PickingLemmas.{picked_into}
 use Rattle.tcc_judge.proofs.MemberLemmas.{few_same, listed_all, listed_ascend, stale_keys, those_few, those_same}
 
-by_order : (h : History) (level : Level) (most : ℕ) (runs : List Run) → 4 < most → (rule : Rule) (at : ℕ × ℕ)
+by_order : (h : History) (level : Level) (most : ℕ) (runs : List Run) → 4 < most → (rule : LargeRule) (at : ℕ × ℕ)
     → IsFirstBroken (onward_rules (judged h level) (order_of h runs) most) rule at
     → IsFirstBroken (at_each Onward (BreaksOnward h most runs) ∷ as_whole Limits (4 < most → IsBounded (judged h level) (order_of h runs) most)
     ∷ as_whole Cheaper (NoneBelow (judged h level) most) ∷ []) rule at
@@ -49,7 +49,7 @@ by_order h level most runs more rule at (inr (pairs, inr (bounded, inl broken)))
 by_order h level most runs more rule at (inr (pairs, inr (bounded, inr later))) = inr ((λ at is. pairs at is.1), inr ((λ _. bounded), inr later))
 
 -- above a cost of 4 those are the rules
-pub past_four : (h : History) (level : Level) (most : ℕ) (runs : List Run) → 4 < most → (said : Verdict Rule)
+pub past_four : (h : History) (level : Level) (most : ℕ) (runs : List Run) → 4 < most → (said : Verdict LargeRule)
     → IsVerdictOf (onward_rules (judged h level) (order_of h runs) most) said → IsVerdictOf (least_rules h level most runs) said
 past_four h level most runs more verdict.Accepted (pairs, (bounded, (none, rest))) = (
   (λ at broken. absurd (omega (arith, broken.0, more))),
@@ -59,7 +59,7 @@ past_four h level most runs more (verdict.Rejected rule at) broken =
     inr ((λ at is. absurd (omega (arith, is.0, more))), inr ((λ at is. absurd (omega (arith, is.0, more))), by_order h level most runs more rule at broken))
 
 -- where the sizes and the links are right, the verdict that no cycle costs less is that on the claim
-pub with_links : (h : History) (k : LinksClaim) (runs : List Run) → k.least ≡ Some runs → HasLinksSizes h k → IsRightCycle h k → (said : Verdict Rule)
+pub with_links : (h : History) (k : LinksClaim) (runs : List Run) → k.least ≡ Some runs → HasLinksSizes h k → IsRightCycle h k → (said : Verdict LargeRule)
     → IsVerdictOf (least_rules h k.level k.cost runs) said → IsVerdictOf (cycle_rules h k) said
 with_links h k runs is sizes right said w =
     answer_later (as_whole Sizes (HasLinksSizes h k) ∷ links_rules h k) (least_rules_of h k.level k.cost k.least) said (sizes, (right, tt))

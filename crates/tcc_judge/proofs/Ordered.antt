@@ -12,11 +12,11 @@ use Rattle.tcc_judge.specs.Orders.{BreaksPair}
 use Rattle.tcc_cert.specs.declared.large.Run.{Run}
 use Rattle.tcc_judge.specs.Runs.{AreWhole, order_of}
 use Rattle.tcc_judge.specs.Verdicts.{HasOrderSizes, order_rules, pair_rules}
-use Rattle.tcc_judge.specs.declared.verdict.Rule.{Rule}
+use Rattle.tcc_judge.specs.declared.verdict.LargeRule.{LargeRule}
 use Rattle.tcc_rules.specs.declared.verdict.Verdict.{Verdict}
 use Rattle.tcc_rules.specs.Asked.{AllHold, IsVerdictOf, as_whole}
 use Rattle.tcc_rules.proofs.Asked.{answer_later}
-use Rattle.tcc_judge.specs.declared.verdict.Rule.TheVariants.{Sizes}
+use Rattle.tcc_judge.specs.declared.verdict.LargeRule.TheVariants.{Sizes}
 use Rattle.tcc_judge.specs.private.Least.{IsFoundFirst}
 use Rattle.tcc_judge.specs.private.Positions.{ArePositions, IsTurned}
 use Rattle.tcc_judge.specs.private.Decoding.{IsOrdered}
@@ -97,7 +97,7 @@ accepted_order h numbered some owned k = ((λ all. there all), λ both. back bot
     )
 
 -- the verdict on an order is that on the claim where the sizes are right
-pub with_sizes : (h : History) (k : RunsClaim) → HasOrderSizes h k → (said : Verdict Rule) → IsVerdictOf (pair_rules (judged h k.level) (order_of h k.runs)) said
+pub with_sizes : (h : History) (k : RunsClaim) → HasOrderSizes h k → (said : Verdict LargeRule) → IsVerdictOf (pair_rules (judged h k.level) (order_of h k.runs)) said
     → IsVerdictOf (order_rules h k) said
 with_sizes h k sizes said w =
     answer_later (as_whole Sizes (HasOrderSizes h k) ∷ []) (pair_rules (judged h k.level) (order_of h k.runs)) said (sizes, tt) w

@@ -15,7 +15,7 @@ use Rattle.tcc_least.proofs.Shapes.{below_none}
 use Rattle.tcc_judge.specs.Claims.{links_claim_of, cycle_claim_of, short_claim_of}
 use Rattle.tcc_judge.specs.Cycles.{IsRightCycle, BreaksOnward, BreaksRound, BreaksReturn}
 use Rattle.tcc_judge.specs.Verdicts.{cycle_rules, least_rules_of, rules_of}
-use Rattle.tcc_judge.specs.declared.verdict.Rule.{Rule}
+use Rattle.tcc_judge.specs.declared.verdict.LargeRule.{LargeRule}
 use Rattle.tcc_rules.specs.declared.verdict.Verdict.{Verdict}
 use Rattle.tcc_rules.specs.Asked.{AllHold, IsVerdictOf}
 use Rattle.tcc_rules.proofs.Asked.{AreApart, accepted_by, links_apart}
@@ -36,7 +36,7 @@ rules_apart : (h : History) (claim : LargeCertificate) → AreApart (rules_of h 
 rules_apart h (certificate.Order k) = ((λ at broken. broken.1), ((λ at first none. none at first.here), ((λ at first none. none at first.here), tt)))
 rules_apart h (certificate.Cycle k) = ((λ at broken. broken.1), (links_apart (judged h k.level) k.cost k.links, least_apart h k.level k.cost k.least))
 
-pub kept_accepted : (h : History) (claim : LargeCertificate) → AllHold (rules_of h claim) → (said : Verdict Rule) → IsVerdictOf (rules_of h claim) said
+pub kept_accepted : (h : History) (claim : LargeCertificate) → AllHold (rules_of h claim) → (said : Verdict LargeRule) → IsVerdictOf (rules_of h claim) said
     → said ≡ verdict.Accepted
 kept_accepted h claim all said is = accepted_by (rules_of h claim) (rules_apart h claim) all said is
 

@@ -12,8 +12,8 @@ use Rattle.tcc_rules.proofs.Asked.{answer_later}
 use Rattle.tcc_judge.proofs.Leastness.{with_links}
 use Rattle.tcc_judge.specs.Cycles.{HasLinksSizes, IsRightCycle}
 use Rattle.tcc_judge.specs.Verdicts.{cycle_rules, least_rules, least_rules_of, links_rules}
-use Rattle.tcc_judge.specs.declared.verdict.Rule.{Rule}
-use Rattle.tcc_judge.specs.declared.verdict.Rule.TheVariants.{Sizes, Links}
+use Rattle.tcc_judge.specs.declared.verdict.LargeRule.{LargeRule}
+use Rattle.tcc_judge.specs.declared.verdict.LargeRule.TheVariants.{Sizes, Links}
 
 module _ (h : History) (k : LinksClaim) where
   pub sizes_rejected : (HasLinksSizes h k → ⊥) → IsVerdictOf (cycle_rules h k) (verdict.Rejected Sizes (0, 0))
@@ -22,7 +22,7 @@ module _ (h : History) (k : LinksClaim) where
   pub links_rejected : HasLinksSizes h k → (at : ℕ) → IsLinksFault (judged h k.level) k.cost k.links (at, 0) → IsVerdictOf (cycle_rules h k) (verdict.Rejected Links (at, 0))
   links_rejected sizes at fault = inr (sizes, inl (refl, fault))
 
-  pub least_claimed : (runs : List Run) → k.least ≡ Some runs → HasLinksSizes h k → IsRightCycle h k → (said : Verdict Rule)
+  pub least_claimed : (runs : List Run) → k.least ≡ Some runs → HasLinksSizes h k → IsRightCycle h k → (said : Verdict LargeRule)
       → IsVerdictOf (least_rules h k.level k.cost runs) said → IsVerdictOf (cycle_rules h k) said
   least_claimed runs is sizes right said w = with_links h k runs is sizes right said w
 

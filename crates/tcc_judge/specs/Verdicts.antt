@@ -14,10 +14,10 @@ use Rattle.tcc_cert.specs.declared.large.Run.{Run}
 use Rattle.tcc_judge.specs.Runs.{AreWhole, order_of}
 use Rattle.tcc_judge.specs.Orders.{BreaksPair, BreaksAxiom}
 use Rattle.tcc_judge.specs.Spanned.{IsBounded}
-use Rattle.tcc_judge.specs.declared.verdict.Rule.{Rule}
-use Rattle.tcc_judge.specs.declared.verdict.Rule.TheVariants.{Sizes, Links, ShortPairs, ShortLinks, Onward, Limits, Cheaper, Pairs, Axiom}
+use Rattle.tcc_judge.specs.declared.verdict.LargeRule.{LargeRule}
+use Rattle.tcc_judge.specs.declared.verdict.LargeRule.TheVariants.{Sizes, Links, ShortPairs, ShortLinks, Onward, Limits, Cheaper, Pairs, Axiom}
 
-abbrev pub rule_number : Rule → ℕ
+abbrev pub rule_number : LargeRule → ℕ
 rule_number = elim [ Sizes ↦ 1 | Links ↦ 2 | ShortPairs ↦ 3 | ShortLinks ↦ 4 | Onward ↦ 5 | Limits ↦ 6 | Cheaper ↦ 7 | Pairs ↦ 8 | Axiom ↦ 9 ]
 
 -- the sizes are those of the history, and the runs of each session have all its committed transactions
@@ -27,36 +27,36 @@ pub record HasOrderSizes (h : History) (k : RunsClaim) : Type 0 where
   pub whole : AreWhole h k.runs
 
 -- the rules on an order, in turn
-abbrev pub pair_rules : Judged → List ℕ → List (Asked Rule)
+abbrev pub pair_rules : Judged → List ℕ → List (Asked LargeRule)
 pair_rules j order = at_each Pairs (BreaksPair j.history order) ∷ at_each Axiom (BreaksAxiom j order) ∷ []
 
 -- the rules for a claim that runs encode a commit order, in turn
-abbrev pub order_rules : History → RunsClaim → List (Asked Rule)
+abbrev pub order_rules : History → RunsClaim → List (Asked LargeRule)
 order_rules h k = as_whole Sizes (HasOrderSizes h k) ∷ pair_rules (judged h k.level) (order_of h k.runs)
 
 -- the rule on the links of a claim
-abbrev pub links_rules : History → LinksClaim → List (Asked Rule)
+abbrev pub links_rules : History → LinksClaim → List (Asked LargeRule)
 links_rules h k = of_links Links (judged h k.level) k.cost k.links ∷ []
 
 -- the rules that no cycle costs less, in turn: up to a cost of 4 without an order, and above that with the one that the runs encode
-abbrev pub least_rules : History → Level → ℕ → List Run → List (Asked Rule)
+abbrev pub least_rules : History → Level → ℕ → List Run → List (Asked LargeRule)
 least_rules h level most runs =
     at_each ShortPairs (BreaksRound h most) ∷ at_each ShortLinks (BreaksReturn h most) ∷ at_each Onward (BreaksOnward h most runs)
     ∷ as_whole Limits (4 < most → IsBounded (judged h level) (order_of h runs) most) ∷ as_whole Cheaper (NoneBelow (judged h level) most) ∷ []
 
 -- the rules that no cycle costs less, where that is claimed
-abbrev pub least_rules_of : History → Level → ℕ → Option (List Run) → List (Asked Rule)
+abbrev pub least_rules_of : History → Level → ℕ → Option (List Run) → List (Asked LargeRule)
 least_rules_of h level most None = []
 least_rules_of h level most (Some runs) = least_rules h level most runs
 
 -- the rules for a claim of a cycle, in turn
-abbrev pub cycle_rules : History → LinksClaim → List (Asked Rule)
+abbrev pub cycle_rules : History → LinksClaim → List (Asked LargeRule)
 cycle_rules h k =
     as_whole Sizes (HasLinksSizes h k)
     ∷ of_links Links (judged h k.level) k.cost k.links
     ∷ least_rules_of h k.level k.cost k.least
 
 -- the rules for a claim about a history of any size, in turn
-abbrev pub rules_of : History → LargeCertificate → List (Asked Rule)
+abbrev pub rules_of : History → LargeCertificate → List (Asked LargeRule)
 rules_of h (certificate.Order k) = order_rules h k
 rules_of h (certificate.Cycle k) = cycle_rules h k

@@ -3,13 +3,13 @@ ghost use Rattle.std.specs.Prelude.{IfOk};
 ghost use Rattle.tcc_judge.specs.Verdicts.{rules_of};
 ghost use Rattle.tcc_rules.specs.Asked.{IsVerdictOf};
 
-use crate::{Judging, judge_cycle, judge_order};
+use crate::{LargeJudging, judge_cycle, judge_order};
 use std::alloc::Global;
 use tcc_cert::LargeCertificate;
 use tcc_graph::LargeGraph;
 
 /// Accepts the claim exactly where it keeps all rules for its kind and its level; otherwise names the first broken one and where.
-pub fn judge(alloc: Global, graph: &LargeGraph, certificate: &LargeCertificate) -> Judging
+pub fn judge(alloc: Global, graph: &LargeGraph, certificate: &LargeCertificate) -> LargeJudging
     ensures { IfOk result (IsVerdictOf (rules_of graph.now certificate.now)) }
 {
     match certificate {

@@ -25,7 +25,7 @@ use tcc_txn::NoMemory;
 
 /// What an order contradicts.
 #[derive(Drop)]
-pub(crate) struct Contradicted {
+pub(crate) struct ContradictedReads {
     /// For each place of the order the position of the last transaction that has to come before it and doesn't; 0 where there is none.
     pub(crate) lasts: Vec<u32>,
     /// For each key whether a reading of it from `init` is contradicted.
@@ -164,7 +164,7 @@ pub(crate) fn contradicted_along<P: Progress>(
     order: &[u32],
     positions: &[u32],
     progress: &P,
-) -> Result<Contradicted, NoMemory>
+) -> Result<ContradictedReads, NoMemory>
     requires ordered { IsOrdered graph.now order.now }
     requires kept { KeepsPairs graph.now order.now positions.now }
     ensures found { IfOk result (λ found. AreContradicted graph.now order.now positions.now found.lasts.items found.stale.items) }
@@ -186,7 +186,7 @@ pub(crate) fn contradicted_along<P: Progress>(
         note_block(graph, &mut block, positions, order, &mut lasts, &mut stale)?;
         mark_sources(graph, &block, order, &lasts, &mut gaps, &mut sources)?;
     }
-    Ok(Contradicted {
+    Ok(ContradictedReads {
         lasts,
         stale,
         sources,

@@ -9,7 +9,7 @@ use crate::decoding::decode_runs;
 use crate::least_by_order::onward_verdict;
 use crate::links::judge_links;
 use crate::verdict::{rejected, rejected_at};
-use crate::{Judging, Rule, Verdict};
+use crate::{LargeJudging, LargeRule, LargeVerdict};
 use std::alloc::Global;
 use tcc_base::{Progress, Unwatched};
 use tcc_cert::{LinksClaim, Run};
@@ -66,14 +66,14 @@ fn has_links_sizes(alloc: Global, graph: &LargeGraph, claim: &LinksClaim) -> Res
 }
 
 /// The verdict of the rules that no cycle costs less, up to a cost of 4.
-fn short_verdict(graph: &LargeGraph, cost: u32) -> Verdict
+fn short_verdict(graph: &LargeGraph, cost: u32) -> LargeVerdict
     requires { cost ≤ SHORT }
     ensures { (level : Level) (runs : List Run) → IsVerdictOf (least_rules graph.now level cost runs) result }
 {
     match short_cycle(graph, u64::from(cost)) {
-        Some(ShortCycle::Round { from, to }) => rejected_at(Rule::ShortPairs, (from, to)),
-        Some(ShortCycle::Return { from, to }) => rejected_at(Rule::ShortLinks, (from, to)),
-        None => Verdict::Accepted,
+        Some(ShortCycle::Round { from, to }) => rejected_at(LargeRule::ShortPairs, (from, to)),
+        Some(ShortCycle::Return { from, to }) => rejected_at(LargeRule::ShortLinks, (from, to)),
+        None => LargeVerdict::Accepted,
     }
 }
 
@@ -85,7 +85,7 @@ pub(crate) fn least_verdict<P: Progress>(
     cost: u32,
     runs: &[Run],
     progress: &P,
-) -> Judging
+) -> LargeJudging
     requires { AreNeededRuns graph.now cost runs.now }
     ensures { IfOk result (IsVerdictOf (least_rules graph.now level cost runs.now)) }
 {
@@ -93,7 +93,7 @@ pub(crate) fn least_verdict<P: Progress>(
         return Ok(short_verdict(graph, cost));
     }
     let Some(order) = decode_runs(alloc, graph, runs)? else {
-        return Ok(rejected(Rule::Sizes));
+        return Ok(rejected(LargeRule::Sizes));
     };
     let verdict = onward_verdict(alloc, graph, level, cost, &order, progress)?;
     Ok(verdict)
@@ -102,14 +102,14 @@ pub(crate) fn least_verdict<P: Progress>(
 /// Accepts the claim exactly where the links are a cycle of its cost and its level, and, where that is claimed, no cycle costs less.
 /// Otherwise it names the first broken rule and where. Up to a cost of 4 it is decided directly that no cycle costs less. Above that it is
 /// decided within the limits of its rule, with the runs of an order that keeps all pairs.
-pub fn judge_cycle(alloc: Global, graph: &LargeGraph, claim: &LinksClaim) -> Judging
+pub fn judge_cycle(alloc: Global, graph: &LargeGraph, claim: &LinksClaim) -> LargeJudging
     ensures { IfOk result (IsVerdictOf (cycle_rules graph.now claim.now)) }
 {
     if !has_links_sizes(alloc, graph, claim)? {
-        return Ok(rejected(Rule::Sizes));
+        return Ok(rejected(LargeRule::Sizes));
     }
     let verdict = judge_links(graph, claim)?;
-    if verdict != Verdict::Accepted {
+    if verdict != LargeVerdict::Accepted {
         return Ok(verdict);
     }
     match &claim.least {
@@ -124,6 +124,6 @@ pub fn judge_cycle(alloc: Global, graph: &LargeGraph, claim: &LinksClaim) -> Jud
             )?;
             Ok(verdict)
         }
-        None => Ok(Verdict::Accepted),
+        None => Ok(LargeVerdict::Accepted),
     }
 }

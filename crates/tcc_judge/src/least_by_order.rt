@@ -9,11 +9,11 @@ ghost use Rattle.tcc_reads.specs.History.{count};
 ghost use Rattle.tcc_judge.specs.Spanned.{HasFewMembers, IsBounded, IsLeadingBack, IsLedBack, IsMember, IsStaleKey};
 ghost use Rattle.tcc_rules.specs.Asked.{IsVerdictOf};
 
-use crate::contradicted::{Contradicted, contradicted_along};
+use crate::contradicted::{ContradictedReads, contradicted_along};
 use crate::first_backward_read::kept_positions;
 use crate::members::{all_marked, both_marked, marked, marked_led, marked_under};
 use crate::verdict::{rejected, rejected_at};
-use crate::{Judging, Rule, Verdict};
+use crate::{LargeJudging, LargeRule, LargeVerdict};
 use std::alloc::Global;
 use tcc_base::Progress;
 use tcc_graph::{LargeGraph, Level};
@@ -39,7 +39,7 @@ fn member_marks(
     level: Level,
     order: &[u32],
     positions: &[u32],
-    found: &Contradicted,
+    found: &ContradictedReads,
     most: u32,
     sources: &[u32],
     targets: &[u32],
@@ -66,7 +66,7 @@ fn members(
     level: Level,
     order: &[u32],
     positions: &[u32],
-    found: &Contradicted,
+    found: &ContradictedReads,
     most: u32,
 ) -> Result<Option<Vec<u32>>, NoMemory>
     requires ordered { IsOrdered graph.now order.now }
@@ -102,7 +102,7 @@ pub(crate) fn narrow_on(
     level: Level,
     order: &[u32],
     positions: &[u32],
-    found: &Contradicted,
+    found: &ContradictedReads,
     most: u32,
 ) -> Result<Narrowed, NoMemory>
     requires ordered { IsOrdered graph.now order.now }
@@ -132,7 +132,7 @@ fn narrow(
     level: Level,
     order: &[u32],
     positions: &[u32],
-    found: &Contradicted,
+    found: &ContradictedReads,
     most: u32,
 ) -> Result<Option<Narrowed>, NoMemory>
     requires ordered { IsOrdered graph.now order.now }
@@ -214,20 +214,20 @@ pub(crate) fn onward_verdict<P: Progress>(
     most: u32,
     order: &[u32],
     progress: &P,
-) -> Judging
+) -> LargeJudging
     requires ordered { IsOrdered graph.now order.now }
     requires some { 0 < most }
     ensures { IfOk result (IsVerdictOf (onward_rules (judged graph.now level) order.now most)) }
 {
     let positions = match kept_positions(alloc, graph, order)? {
         Ok(positions) => positions,
-        Err(at) => return Ok(rejected_at(Rule::Onward, at)),
+        Err(at) => return Ok(rejected_at(LargeRule::Onward, at)),
     };
     let Some(narrowed) = narrow_down(alloc, graph, level, order, &positions, most, progress)? else {
-        return Ok(rejected(Rule::Limits));
+        return Ok(rejected(LargeRule::Limits));
     };
     if has_cheaper(alloc, graph, level, &narrowed, most)? {
-        return Ok(rejected(Rule::Cheaper));
+        return Ok(rejected(LargeRule::Cheaper));
     }
-    Ok(Verdict::Accepted)
+    Ok(LargeVerdict::Accepted)
 }

@@ -33,4 +33,4 @@ pub use links::judge_links;
 pub use ordering::judge_order;
 pub use picking::{FirstAround, first_around};
 pub use taken::{TakenLinks, judge_taken, judge_taken_watched};
-pub use verdict::{Judging, Rule, Verdict};
+pub use verdict::{LargeJudging, LargeRule, LargeVerdict};

@@ -10,7 +10,7 @@ use crate::decoding::decode_runs;
 use crate::first_backward_read::kept_positions;
 use crate::singles::first_single;
 use crate::verdict::{rejected, rejected_at};
-use crate::{Judging, Rule, Verdict};
+use crate::{LargeJudging, LargeRule, LargeVerdict};
 use std::alloc::Global;
 use tcc_base::{Progress, Unwatched};
 use tcc_cert::RunsClaim;
@@ -43,17 +43,17 @@ fn pairs_verdict<P: Progress>(
     level: Level,
     order: &[u32],
     progress: &P,
-) -> Judging
+) -> LargeJudging
     requires { IsOrdered graph.now order.now }
     ensures { IfOk result (IsVerdictOf (pair_rules (judged graph.now level) order.now)) }
 {
     let positions = match kept_positions(alloc, graph, order)? {
         Ok(positions) => positions,
-        Err(at) => return Ok(rejected_at(Rule::Pairs, at)),
+        Err(at) => return Ok(rejected_at(LargeRule::Pairs, at)),
     };
     match first_broken(alloc, graph, level, order, &positions, progress)? {
-        Some(at) => Ok(rejected_at(Rule::Axiom, at)),
-        None => Ok(Verdict::Accepted),
+        Some(at) => Ok(rejected_at(LargeRule::Axiom, at)),
+        None => Ok(LargeVerdict::Accepted),
     }
 }
 
@@ -79,7 +79,7 @@ fn claimed_order(
 
 /// Accepts the claim exactly where the runs match the sizes of the sessions and encode a commit order of the level; otherwise names the
 /// first broken rule and where.
-pub fn judge_order(alloc: Global, graph: &LargeGraph, claim: &RunsClaim) -> Judging
+pub fn judge_order(alloc: Global, graph: &LargeGraph, claim: &RunsClaim) -> LargeJudging
     ensures { IfOk result (IsVerdictOf (order_rules graph.now claim.now)) }
 {
     judge_order_watched(alloc, graph, claim, &Unwatched)
@@ -91,11 +91,11 @@ pub(crate) fn judge_order_watched<P: Progress>(
     graph: &LargeGraph,
     claim: &RunsClaim,
     progress: &P,
-) -> Judging
+) -> LargeJudging
     ensures { IfOk result (IsVerdictOf (order_rules graph.now claim.now)) }
 {
     let Some(order) = claimed_order(alloc, graph, claim)? else {
-        return Ok(rejected(Rule::Sizes));
+        return Ok(rejected(LargeRule::Sizes));
     };
     let verdict = pairs_verdict(alloc, graph, claim.level, &order, progress)?;
     Ok(verdict)

@@ -12,7 +12,7 @@ ghost use Rattle.tcc_graph.specs.Levels.{judged};
 ghost use Rattle.tcc_least.specs.Shapes.{NoneBelow};
 ghost use Rattle.tcc_judge.specs.{Picking.IsFirstAround, private.Onward.HasAllBelow, private.Picking.IsCircleBelow, private.Picking.IsLeastBelow, private.Picking.IsOrderKept};
 
-use crate::contradicted::{Contradicted, contradicted_along};
+use crate::contradicted::{ContradictedReads, contradicted_along};
 use crate::decoding::{decode_runs, push_all};
 use crate::first_backward_read::kept_positions;
 use crate::least_by_order::{Narrowed, narrow_on};
@@ -40,7 +40,7 @@ pub(crate) struct OrderKept {
     /// The position of each of them.
     pub(crate) positions: Vec<u32>,
     /// What the order contradicts.
-    pub(crate) found: Contradicted,
+    pub(crate) found: ContradictedReads,
 }
 
 /// The order that runs encode, where it keeps all pairs.

@@ -11,7 +11,7 @@ ghost use Rattle.tcc_judge.specs.{Cycles.AreNeededRuns, Cycles.HasLinksSizes, Ta
 use crate::cycles::{are_needed, least_verdict};
 use crate::ordering::judge_order_watched;
 use crate::verdict::{rejected, rejected_at};
-use crate::{Judging, Rule, Verdict};
+use crate::{LargeJudging, LargeRule, LargeVerdict};
 use std::alloc::Global;
 use tcc_base::{Progress, Unwatched};
 use tcc_cert::{LargeHead, LinksHead, LinksSizes, TakesLinks};
@@ -130,15 +130,15 @@ fn judge_taken_cycle<P: Progress>(
     head: &LinksHead,
     taken: &TakenLinks,
     progress: &P,
-) -> Judging
+) -> LargeJudging
     ensures { IfOk result (λ verdict. (links : List Link) → AreTaken taken.now graph.now head.now.sizes links
         → IsVerdictOf (cycle_rules graph.now (with_links head.now links)) verdict) }
 {
     if !has_head_sizes(alloc, graph, head, taken.are_below)? {
-        return Ok(rejected(Rule::Sizes));
+        return Ok(rejected(LargeRule::Sizes));
     }
     if let Some(at) = taken.judge.first_wrong()? {
-        return Ok(rejected_at(Rule::Links, (at, 0)));
+        return Ok(rejected_at(LargeRule::Links, (at, 0)));
     }
     let LinksSizes { level, cost, .. } = head.sizes;
     match &head.least {
@@ -146,7 +146,7 @@ fn judge_taken_cycle<P: Progress>(
             let verdict = least_verdict(alloc, graph, level, cost, runs.as_slice(), progress)?;
             Ok(verdict)
         }
-        None => Ok(Verdict::Accepted),
+        None => Ok(LargeVerdict::Accepted),
     }
 }
 
@@ -157,7 +157,7 @@ pub fn judge_taken(
     graph: &LargeGraph,
     head: &LargeHead,
     taken: &TakenLinks,
-) -> Judging
+) -> LargeJudging
     ensures { IfOk result (λ verdict. (certificate : LargeCertificate) → IsClaimTaken (AreTaken taken.now graph.now) certificate head.now
         → IsVerdictOf (rules_of graph.now certificate) verdict) }
 {
@@ -172,7 +172,7 @@ pub fn judge_taken_watched<P: Progress>(
     head: &LargeHead,
     taken: &TakenLinks,
     progress: &P,
-) -> Judging
+) -> LargeJudging
     ensures { IfOk result (λ verdict. (certificate : LargeCertificate) → IsClaimTaken (AreTaken taken.now graph.now) certificate head.now
         → IsVerdictOf (rules_of graph.now certificate) verdict) }
 {

@@ -8,7 +8,7 @@ use tcc_txn::NoMemory;
 /// The rules, in the order in which they are judged. For a claim that runs encode a commit order, the first and the last two are asked. For
 /// a claim of a cycle, the first two are asked, and where it is claimed to be a least one, the first seven.
 #[derive(Clone, Copy, Debug, PartialEq, Eq)]
-pub enum Rule {
+pub enum LargeRule {
     /// The sizes are those of the history, no number is out of its range, and the runs of each session match its size.
     Sizes = 1,
     /// The links are those of the history at the level, at least one, close a cycle, and cost what is claimed.
@@ -30,7 +30,7 @@ pub enum Rule {
     Axiom,
 }
 
-impl Rule {
+impl LargeRule {
     /// The rule's number, from 1 to 9.
     pub fn number(&self) -> u32
         ensures { result ≡ rule_number self.now }
@@ -40,20 +40,20 @@ impl Rule {
 }
 
 /// What the rules say about a claim.
-pub type Verdict = tcc_rules::Verdict<Rule>;
+pub type LargeVerdict = tcc_rules::Verdict<LargeRule>;
 
 /// A verdict, unless memory ran out.
-pub type Judging = Result<Verdict, NoMemory>;
+pub type LargeJudging = Result<LargeVerdict, NoMemory>;
 
 /// The verdict that this rule is the first broken one, there.
-pub(crate) fn rejected_at(rule: Rule, at: (u32, u32)) -> Verdict
+pub(crate) fn rejected_at(rule: LargeRule, at: (u32, u32)) -> LargeVerdict
     ensures { result ≡ verdict.Rejected rule at }
 {
-    Verdict::Rejected { rule, at }
+    LargeVerdict::Rejected { rule, at }
 }
 
 /// The verdict that this rule is the first broken one, for a rule that names no place.
-pub(crate) fn rejected(rule: Rule) -> Verdict
+pub(crate) fn rejected(rule: LargeRule) -> LargeVerdict
     ensures { result ≡ verdict.Rejected rule (0, 0) }
 {
     rejected_at(rule, (0, 0))

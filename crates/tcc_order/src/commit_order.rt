@@ -23,21 +23,25 @@ use tcc_txn::NoMemory;
 
 /// The links at a level that are kept, or where an order stops because causal pairs alone make a cycle.
 #[derive(Drop)]
-enum Links {
+enum KeptLinks {
     Kept(FlatRows<u32>),
     Circle(Stuck),
 }
 
 /// The links at `Causal` that are kept, by the first order of causal pairs alone.
-fn links_by_clocks(alloc: Global, graph: &LargeGraph, parents: &[u32]) -> Result<Links, NoMemory>
+fn links_by_clocks(
+    alloc: Global,
+    graph: &LargeGraph,
+    parents: &[u32],
+) -> Result<KeptLinks, NoMemory>
     requires numbered { IsBySession graph.now.entries }
     requires parents { ArePrevious graph.now parents.now }
     ensures { IfOk result (AreFound (causally graph.now)) }
 {
     let none = FlatRows::empty(alloc, graph.count())?;
     match first_placing(alloc, graph, parents, &none)? {
-        Placed::Order(order) => Ok(Links::Kept(causal_links(alloc, graph, parents, &order)?)),
-        Placed::Stuck(placed) => Ok(Links::Circle(Stuck { kept: none, placed })),
+        Placed::Order(order) => Ok(KeptLinks::Kept(causal_links(alloc, graph, parents, &order)?)),
+        Placed::Stuck(placed) => Ok(KeptLinks::Circle(Stuck { kept: none, placed })),
     }
 }
 
@@ -47,13 +51,13 @@ fn links_kept(
     graph: &LargeGraph,
     level: Level,
     parents: &[u32],
-) -> Result<Links, NoMemory>
+) -> Result<KeptLinks, NoMemory>
     requires numbered { IsBySession graph.now.entries }
     requires parents { ArePrevious graph.now parents.now }
     ensures { IfOk result (AreFound (judged graph.now level)) }
 {
     match level {
-        Level::Atomic => Ok(Links::Kept(atomic_links(alloc, graph, parents)?)),
+        Level::Atomic => Ok(KeptLinks::Kept(atomic_links(alloc, graph, parents)?)),
         Level::Causal => links_by_clocks(alloc, graph, parents),
     }
 }
@@ -65,7 +69,7 @@ fn links_by_workers(
     graph: &LargeGraph,
     parents: &[u32],
     workers: Workers,
-) -> Result<Links, NoMemory>
+) -> Result<KeptLinks, NoMemory>
     requires numbered { IsBySession graph.now.entries }
     requires parents { ArePrevious graph.now parents.now }
     ensures { IfOk result (AreFound (causally graph.now)) }
@@ -74,9 +78,9 @@ fn links_by_workers(
     match first_placing(alloc, graph, parents, &none)? {
         Placed::Order(order) => {
             let kept = causal_links_by(rt, alloc, graph, parents, &order, workers)?;
-            Ok(Links::Kept(kept))
+            Ok(KeptLinks::Kept(kept))
         }
-        Placed::Stuck(placed) => Ok(Links::Circle(Stuck { kept: none, placed })),
+        Placed::Stuck(placed) => Ok(KeptLinks::Circle(Stuck { kept: none, placed })),
     }
 }
 
@@ -88,7 +92,7 @@ fn links_kept_by(
     level: Level,
     parents: &[u32],
     workers: Workers,
-) -> Result<Links, NoMemory>
+) -> Result<KeptLinks, NoMemory>
     requires numbered { IsBySession graph.now.entries }
     requires parents { ArePrevious graph.now parents.now }
     ensures { IfOk result (AreFound (judged graph.now level)) }
@@ -105,7 +109,7 @@ fn placed_with(
     graph: &LargeGraph,
     level: Level,
     parents: &[u32],
-    links: Links,
+    links: KeptLinks,
 ) -> Result<Placement, NoMemory>
     requires numbered { IsBySession graph.now.entries }
     requires parents { ArePrevious graph.now parents.now }
@@ -113,8 +117,8 @@ fn placed_with(
     ensures { IfOk result (IsPlacement (judged graph.now level)) }
 {
     let kept = match links {
-        Links::Kept(kept) => kept,
-        Links::Circle(stuck) => return Ok(Placement::Stuck(stuck)),
+        KeptLinks::Kept(kept) => kept,
+        KeptLinks::Circle(stuck) => return Ok(Placement::Stuck(stuck)),
     };
     match first_placing(alloc, graph, parents, &kept)? {
         Placed::Order(order) => Ok(Placement::Order(order)),

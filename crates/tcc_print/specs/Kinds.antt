@@ -8,16 +8,16 @@ use Rattle.tcc_print.specs.declared.status.Status.{Status}
 use Rattle.tcc_print.specs.declared.status.Status.TheVariants.{RowFault, Limit, Memory, Device, CertificateFault}
 
 -- how a kind of fault is reported: its word, and the status of a run that it ended
-pub record Told : Type 0 where
+pub record KindReport : Type 0 where
   pub word : List ℕ
   pub status : Status
 
 -- a limit of the records that is passed
-abbrev passed_limit : List ℕ → Told
+abbrev passed_limit : List ℕ → KindReport
 passed_limit word = record { word = word; status = Limit }
 
 -- a kind of row fault
-abbrev pub row_told : RowFaultKind → Told
+abbrev pub row_told : RowFaultKind → KindReport
 row_told row_kind.FieldCount = record { word = codes "FieldCount"; status = RowFault }
 row_told row_kind.BadSession = record { word = codes "BadSession"; status = RowFault }
 row_told row_kind.UnknownWord = record { word = codes "UnknownWord"; status = RowFault }
@@ -37,11 +37,11 @@ row_told row_kind.Read = record { word = codes "Read"; status = Device }
 row_told row_kind.NoMemory = record { word = codes "NoMemory"; status = Memory }
 
 -- a certificate whose text is wrong
-abbrev wrong_text : List ℕ → Told
+abbrev wrong_text : List ℕ → KindReport
 wrong_text word = record { word = word; status = CertificateFault }
 
 -- a kind of fault in the text of a certificate
-abbrev pub certificate_told : CertFaultKind → Told
+abbrev pub certificate_told : CertFaultKind → KindReport
 certificate_told text_kind.Header = wrong_text (codes "Header")
 certificate_told text_kind.Word = wrong_text (codes "Word")
 certificate_told text_kind.Number = wrong_text (codes "Number")

@@ -8,62 +8,62 @@ use tcc_rows::RowFaultKind;
 
 /// How a kind of fault is reported.
 #[derive(Clone, Copy)]
-pub(crate) struct Told {
+pub(crate) struct KindReport {
     /// The word for it.
     pub word: &'static str,
     /// How a run ends that was ended by it.
     pub status: Status,
 }
 
-impl Told {
-    fn new(word: &'static str, status: Status) -> Told
+impl KindReport {
+    fn new(word: &'static str, status: Status) -> KindReport
         ensures word { result.word.now ≡ word.now }
         ensures status { result.status ≡ status }
     {
-        Told { word, status }
+        KindReport { word, status }
     }
 }
 
 /// How a kind of row fault is reported.
-pub(crate) fn row_told(kind: &RowFaultKind) -> Told
+pub(crate) fn row_told(kind: &RowFaultKind) -> KindReport
     ensures word { result.word.now ≡ (row_told kind.now).word }
     ensures status { result.status ≡ (row_told kind.now).status }
 {
     match kind {
-        RowFaultKind::FieldCount => Told::new("FieldCount", Status::RowFault),
-        RowFaultKind::BadSession => Told::new("BadSession", Status::RowFault),
-        RowFaultKind::UnknownWord => Told::new("UnknownWord", Status::RowFault),
-        RowFaultKind::BadKey => Told::new("BadKey", Status::RowFault),
-        RowFaultKind::BadValue => Told::new("BadValue", Status::RowFault),
-        RowFaultKind::WriteOfZero => Told::new("WriteOfZero", Status::RowFault),
-        RowFaultKind::SessionEnded => Told::new("SessionEnded", Status::RowFault),
-        RowFaultKind::NotBegun => Told::new("NotBegun", Status::RowFault),
-        RowFaultKind::AlreadyBegun => Told::new("AlreadyBegun", Status::RowFault),
-        RowFaultKind::TooManyOps => Told::new("TooManyOps", Status::Limit),
-        RowFaultKind::TooManySessions => Told::new("TooManySessions", Status::Limit),
-        RowFaultKind::TooManyTransactions => Told::new("TooManyTransactions", Status::Limit),
-        RowFaultKind::TooManyKeys => Told::new("TooManyKeys", Status::Limit),
-        RowFaultKind::TooManySeals => Told::new("TooManySeals", Status::Limit),
-        RowFaultKind::Unfinished { .. } => Told::new("Unfinished", Status::RowFault),
-        RowFaultKind::Read => Told::new("Read", Status::Device),
-        RowFaultKind::NoMemory => Told::new("NoMemory", Status::Memory),
+        RowFaultKind::FieldCount => KindReport::new("FieldCount", Status::RowFault),
+        RowFaultKind::BadSession => KindReport::new("BadSession", Status::RowFault),
+        RowFaultKind::UnknownWord => KindReport::new("UnknownWord", Status::RowFault),
+        RowFaultKind::BadKey => KindReport::new("BadKey", Status::RowFault),
+        RowFaultKind::BadValue => KindReport::new("BadValue", Status::RowFault),
+        RowFaultKind::WriteOfZero => KindReport::new("WriteOfZero", Status::RowFault),
+        RowFaultKind::SessionEnded => KindReport::new("SessionEnded", Status::RowFault),
+        RowFaultKind::NotBegun => KindReport::new("NotBegun", Status::RowFault),
+        RowFaultKind::AlreadyBegun => KindReport::new("AlreadyBegun", Status::RowFault),
+        RowFaultKind::TooManyOps => KindReport::new("TooManyOps", Status::Limit),
+        RowFaultKind::TooManySessions => KindReport::new("TooManySessions", Status::Limit),
+        RowFaultKind::TooManyTransactions => KindReport::new("TooManyTransactions", Status::Limit),
+        RowFaultKind::TooManyKeys => KindReport::new("TooManyKeys", Status::Limit),
+        RowFaultKind::TooManySeals => KindReport::new("TooManySeals", Status::Limit),
+        RowFaultKind::Unfinished { .. } => KindReport::new("Unfinished", Status::RowFault),
+        RowFaultKind::Read => KindReport::new("Read", Status::Device),
+        RowFaultKind::NoMemory => KindReport::new("NoMemory", Status::Memory),
     }
 }
 
 /// How a kind of fault in the text of a certificate is reported.
-pub(crate) fn certificate_told(kind: CertFaultKind) -> Told
+pub(crate) fn certificate_told(kind: CertFaultKind) -> KindReport
     ensures word { result.word.now ≡ (certificate_told kind).word }
     ensures status { result.status ≡ (certificate_told kind).status }
 {
     match kind {
-        CertFaultKind::Header => Told::new("Header", Status::CertificateFault),
-        CertFaultKind::Word => Told::new("Word", Status::CertificateFault),
-        CertFaultKind::Number => Told::new("Number", Status::CertificateFault),
-        CertFaultKind::Count => Told::new("Count", Status::CertificateFault),
-        CertFaultKind::TooLarge => Told::new("TooLarge", Status::CertificateFault),
-        CertFaultKind::Truncated => Told::new("Truncated", Status::CertificateFault),
-        CertFaultKind::Trailing => Told::new("Trailing", Status::CertificateFault),
-        CertFaultKind::Read => Told::new("Read", Status::Device),
-        CertFaultKind::NoMemory => Told::new("NoMemory", Status::Memory),
+        CertFaultKind::Header => KindReport::new("Header", Status::CertificateFault),
+        CertFaultKind::Word => KindReport::new("Word", Status::CertificateFault),
+        CertFaultKind::Number => KindReport::new("Number", Status::CertificateFault),
+        CertFaultKind::Count => KindReport::new("Count", Status::CertificateFault),
+        CertFaultKind::TooLarge => KindReport::new("TooLarge", Status::CertificateFault),
+        CertFaultKind::Truncated => KindReport::new("Truncated", Status::CertificateFault),
+        CertFaultKind::Trailing => KindReport::new("Trailing", Status::CertificateFault),
+        CertFaultKind::Read => KindReport::new("Read", Status::Device),
+        CertFaultKind::NoMemory => KindReport::new("NoMemory", Status::Memory),
     }
 }

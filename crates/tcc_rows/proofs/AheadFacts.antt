@@ -31,7 +31,7 @@ use Rattle.tcc_rows.specs.declared.fault.RowFaultKind.TheVariants as kind
 use Rattle.tcc_rows.specs.declared.rows.Rows.{Rows}
 use Rattle.tcc_rows.specs.Line.{Line}
 use Rattle.tcc_rows.specs.Line as line
-use Rattle.tcc_rows.specs.declared.rows.progress.Progress.{Progress}
+use Rattle.tcc_rows.specs.declared.rows.progress.RowProgress.{RowProgress}
 use Rattle.tcc_rows.specs.declared.rows.records.RecordsStage.TheVariants as records_stage
 use Rattle.tcc_rows.specs.declared.rows.records.Records.{Records}
 use Rattle.tcc_rows.proofs.LimitFacts.{marked-past, marked-within}
@@ -155,7 +155,7 @@ module _ (limits : Limits) where
   judged-unlawful past fields k whole e = rw (whole, e) refl
 
   -- the judgement of a record that is not an operation that can be passed
-  pub judged-refused : (past : List Line) (fields : Record) (k : RowFaultKind) (p : Progress) → is_cut fields ≡ false
+  pub judged-refused : (past : List Line) (fields : Record) (k : RowFaultKind) (p : RowProgress) → is_cut fields ≡ false
       → PassesOperation {U = Unit {0}} limits past fields (Err k) p
       → (judged_within limits past fields ≡ Err k) ⊎ (k ≡ kind.NoMemory)
   judged-refused past fields k p whole (inl unlawful) = inl (judged-unlawful past fields k whole unlawful)
@@ -314,12 +314,12 @@ module _ (limits : Limits) where
       by (Err fault) unfinished closed end = inl (answers ∙ ap ending unfinished)
 
   -- the fault that the end of the records has after any lines, it has after these
-  pub closed-after : {E : Type 0} (result : Result (Option Item) E) (p : Progress) (past : List Line) → IsAfter limits past p
+  pub closed-after : {E : Type 0} (result : Result (Option Item) E) (p : RowProgress) (past : List Line) → IsAfter limits past p
       → OnOk result ((given : Limits) (lines : List Line) → IsAfter given lines p → fault_at_end lines ≡ None) → OnOk result (fault_at_end past ≡ None)
   closed-after (Ok given) p past is all = all limits past is
   closed-after (Err e) p past is all = tt
 
-  pub unfinished-after : (result : Result (Option Item) RowFault) (row : ℕ) (p : Progress) (past : List Line) → IsAfter limits past p → row ≡ length past
+  pub unfinished-after : (result : Result (Option Item) RowFault) (row : ℕ) (p : RowProgress) (past : List Line) → IsAfter limits past p → row ≡ length past
       → IfErr result (λ fault. (given : Limits) (lines : List Line) → IsAfter given lines p → row ≡ length lines → fault_at_end lines ≡ Some fault)
       → IfErr result (λ fault. fault_at_end past ≡ Some fault)
   unfinished-after (Ok given) row p past is counted all = tt

@@ -22,7 +22,7 @@ use Rattle.tcc_rows.specs.declared.fault.RowFaultKind.{RowFaultKind}
 use Rattle.tcc_rows.specs.Line.{Line}
 use Rattle.tcc_rows.specs.Line as line
 use Rattle.tcc_rows.specs.declared.fault.RowFaultKind.TheVariants as kind
-use Rattle.tcc_rows.specs.declared.rows.progress.Progress.{Progress}
+use Rattle.tcc_rows.specs.declared.rows.progress.RowProgress.{RowProgress}
 
 digits-by : (a b : Bool) (n : ℕ) → (a ≡ true → b ≡ true → ⊥) → cond (a && b) (Some n) None ≡ None
 digits-by true true n h = absurd (h refl refl)
@@ -164,7 +164,7 @@ pub operation-line : (a b c d s : List ℕ) (writes : Bool) (op : Op) → sessio
 operation-line a b c d s writes op session access e = accessed-line a b c d s writes session access ∙ ap (in_session s) e
 
 -- the result of an operation, from that of its line
-pub operation-passes : (limits : Limits) {U : Type 0} (past : List Line) (fields : Record) (session : List ℕ) (op : Op) (result : Result U RowFaultKind) (p : Progress)
+pub operation-passes : (limits : Limits) {U : Type 0} (past : List Line) (fields : Record) (session : List ℕ) (op : Op) (result : Result U RowFaultKind) (p : RowProgress)
     → line_of fields ≡ Ok (line.Operation session op) → PassesLine limits past (line.Operation session op) result p → PassesOperation limits past fields result p
 operation-passes limits past fields session op (Ok done) p lawful (free, is) = (session, op, lawful, free, is)
 operation-passes limits past fields session op (Err k) p lawful (inl fault) = inr (inl (line.Operation session op, lawful, fault))

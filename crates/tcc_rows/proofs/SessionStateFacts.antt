@@ -24,14 +24,14 @@ use Rattle.tcc_rows.specs.declared.fault.RowFaultKind.{RowFaultKind}
 use Rattle.tcc_rows.specs.declared.fault.RowFaultKind.TheVariants as kind
 use Rattle.tcc_rows.specs.Line.{Line}
 use Rattle.tcc_rows.specs.Line as line
-use Rattle.tcc_rows.specs.declared.rows.progress.Progress.{Progress}
+use Rattle.tcc_rows.specs.declared.rows.progress.RowProgress.{RowProgress}
 use Rattle.tcc_rows.proofs.PastFacts.{seat-begun, seat-finished, seat-free, seat-left, seat-none, seat-taken}
 use Rattle.tcc_rows.proofs.PastFacts.{same-itself, seat-operated, seen-noted, seen-other}
 use Rattle.tcc_rows.proofs.PastFacts.{with_name-new, with_name-seen}
 use Rattle.tcc_txn.specs.declared.limits.TheConstants.{MAX_OPERATIONS}
 
 -- an operation that has its seat
-pub record Seated (past : List Line) (s : List ℕ) (op : Op) (old : Progress) (seats : Seats) : Type 0 where
+pub record Seated (past : List Line) (s : List ℕ) (op : Op) (old : RowProgress) (seats : Seats) : Type 0 where
   pub begun : is_begun s past ≡ true
   pub room : length (ops_since s past) < MAX_OPERATIONS
   pub updates : PutsSeat old.sessions s (Some (ops_since s past ++ op ∷ [])) seats
@@ -121,7 +121,7 @@ module _ (limits : Limits) where
       by false new = rw (at, new) (omega (arith, holds.count))
 
   -- a transaction begins
-  pub after-begin : (past : List Line) (s : List ℕ) (old new : Progress) → IsAfter limits past old
+  pub after-begin : (past : List Line) (s : List ℕ) (old new : RowProgress) → IsAfter limits past old
       → is_ended s past ≡ false → is_begun s past ≡ false → length (with_name s (sessions past)) ≤ most_sessions limits
       → old.begun < most_transactions limits
       → PutsSeat old.sessions s (Some []) new.sessions
@@ -150,7 +150,7 @@ module _ (limits : Limits) where
       )
 
   -- a transaction is finished
-  pub after-finish : (past : List Line) (s : List ℕ) (committed : Bool) (ops : List Op) (old new : Progress) → IsAfter limits past old
+  pub after-finish : (past : List Line) (s : List ℕ) (committed : Bool) (ops : List Op) (old new : RowProgress) → IsAfter limits past old
       → is_ended s past ≡ false → seat_at old.sessions s ≡ Some (Some ops)
       → PutsSeat old.sessions s None new.sessions
       → length new.sessions ≡ length old.sessions
@@ -176,7 +176,7 @@ module _ (limits : Limits) where
       )
 
   -- a transaction ends with unknown outcome
-  pub after-leave : (past : List Line) (s : List ℕ) (ops : List Op) (old new : Progress) → IsAfter limits past old
+  pub after-leave : (past : List Line) (s : List ℕ) (ops : List Op) (old new : RowProgress) → IsAfter limits past old
       → is_ended s past ≡ false → seat_at old.sessions s ≡ Some (Some ops)
       → PutsSeat old.sessions s None new.sessions
       → length new.sessions ≡ length old.sessions
@@ -229,7 +229,7 @@ module _ (limits : Limits) where
       rw (late, begun, few) refl
 
   -- the result of an operation that has its seat, by whether its key can be noted
-  pub after-operation : {U : Type 0} (past : List Line) (s : List ℕ) (op : Op) (old : Progress) (seats : Seats) (names : List (List ℕ)) (result : Result U RowFaultKind)
+  pub after-operation : {U : Type 0} (past : List Line) (s : List ℕ) (op : Op) (old : RowProgress) (seats : Seats) (names : List (List ℕ)) (result : Result U RowFaultKind)
       → is_ended s past ≡ false → IsAfter limits past old → Seated past s op old seats → NotesName limits (keys past) (op_key op) result names
       → PassesLine limits past (line.Operation s op) result (record { limits = old.limits; sessions = seats; ended = old.ended; keys = names; begun = old.begun; seals = old.seals; numbers = old.numbers })
   after-operation past s op old seats names (Ok done) late is seated noted =
@@ -262,7 +262,7 @@ module _ (limits : Limits) where
   noted-on names key (Err k) new holds memory = inr memory
 
   -- an operation that was added has its seat
-  pub seated-added : {U : Type 0} (past : List Line) (s : List ℕ) (op : Op) (old : Progress) (seats : Seats) (begun new : Option (List Op)) (done : U)
+  pub seated-added : {U : Type 0} (past : List Line) (s : List ℕ) (op : Op) (old : RowProgress) (seats : Seats) (begun new : Option (List Op)) (done : U)
       → IsAfter limits past old → seat_at old.sessions s ≡ Some begun → AddsOp op begun (Ok done) new
       → PutsSeat old.sessions s new seats → length seats ≡ length old.sessions
       → Seated past s op old seats

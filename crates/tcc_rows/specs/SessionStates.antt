@@ -12,7 +12,7 @@ use Rattle.tcc_rows.specs.Past.{begin_count, is_begun, is_ended, keys, ops_since
 use Rattle.tcc_txn.specs.declared.limits.Limits.{Limits}
 use Rattle.tcc_txn.specs.declared.op.Op.{Op}
 use Rattle.tcc_rows.specs.Line.{Line}
-use Rattle.tcc_rows.specs.declared.rows.progress.Progress.{Progress}
+use Rattle.tcc_rows.specs.declared.rows.progress.RowProgress.{RowProgress}
 
 -- a session's seat: none before its first begin; then the operations of its transaction, if one is begun
 abbrev pub seat : Bool → List Op → Bool → Option (Option (List Op))
@@ -38,7 +38,7 @@ pub record HoldsNames (limits : Limits) (names : List (List ℕ)) (table : List 
   pub few : length names ≤ most_keys limits
 
 -- the progress is that of these lines under the limits
-pub record IsAfter (limits : Limits) (past : List Line) (p : Progress) : Type 0 where
+pub record IsAfter (limits : Limits) (past : List Line) (p : RowProgress) : Type 0 where
   pub kept : p.limits ≡ limits
   pub seats : HoldsSeats limits past p.sessions
   pub ended : HoldsEnded past p.ended

@@ -188,7 +188,7 @@ fn has_found(found: &BTreeSet<(Name, u64)>, txn: &Txn) -> bool
 
 /// Transactions of unknown outcome: those of which a value was read, and the others.
 #[derive(Drop)]
-pub(crate) struct Settled {
+pub(crate) struct SettledOutcomes {
     pub(crate) seen: Vec<(Name, Txn)>,
     pub(crate) unseen: Vec<(Name, Txn)>,
 }
@@ -198,11 +198,11 @@ fn separate(
     alloc: Global,
     found: &BTreeSet<(Name, u64)>,
     pending: Vec<(Name, Txn)>,
-) -> Result<Settled, NoMemory>
+) -> Result<SettledOutcomes, NoMemory>
     ensures { IfOk result (λ settled. (settled.seen.items ≡ filter (λ p. list_any (is_among found.now) p.1.ops) pending.items)
         × (settled.unseen.items ≡ filter (λ p. not (list_any (is_among found.now) p.1.ops)) pending.items)) }
 {
-    let mut settled = Settled {
+    let mut settled = SettledOutcomes {
         seen: Vec::new(alloc),
         unseen: Vec::new(alloc),
     };
@@ -230,7 +230,7 @@ impl PendingValues {
         &mut self,
         alloc: Global,
         pending: Vec<(Name, Txn)>,
-    ) -> Result<Settled, NoMemory>
+    ) -> Result<SettledOutcomes, NoMemory>
         ensures { IfOk result (λ settled. (s : Sessions) → Follows s pending.items self.old
             → (settled.seen.items ≡ seen_among s pending.items) × (settled.unseen.items ≡ unseen_among s pending.items)
             × Follows s (unseen_among s pending.items) self.new) }

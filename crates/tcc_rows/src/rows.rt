@@ -15,7 +15,7 @@ mod seats;
 
 use crate::{RowFault, RowFaultKind};
 use line::{ControlRecord, read_line};
-use progress::Progress;
+use progress::RowProgress;
 use records::Records;
 use std::alloc::Global;
 use std::io::Read;
@@ -62,7 +62,7 @@ enum RowsStage {
 #[derive(Drop)]
 pub struct Rows<R> {
     records: Records<R>,
-    progress: Progress,
+    progress: RowProgress,
     /// The session of the last operation.
     session: Option<Name>,
     stage: RowsStage,
@@ -93,7 +93,7 @@ impl<R: Read + Drop> Rows<R> {
     {
         Ok(Rows {
             records: Records::new(alloc, reader, limits),
-            progress: Progress::new(alloc, limits),
+            progress: RowProgress::new(alloc, limits),
             session: None,
             stage: RowsStage::Reading,
         })

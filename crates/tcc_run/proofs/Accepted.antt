@@ -39,7 +39,7 @@ use Rattle.tcc_explain.proofs.CertifiedAnswer.{certified}
 use Rattle.tcc_explain.proofs.RecordedKeys.{recorded_within}
 use Rattle.tcc_explain.proofs.WrittenAnswer.{read_back}
 use Rattle.tcc_judge.specs.Verdicts.{rules_of}
-use Rattle.tcc_judge.specs.declared.verdict.Rule.{Rule}
+use Rattle.tcc_judge.specs.declared.verdict.LargeRule.{LargeRule}
 use Rattle.tcc_judge.proofs.Followed.{own_order}
 use Rattle.tcc_verdict.specs.LargeChecks.{IsLargeShown, IsLargeTextCheck, IsTrueLargeClaim, IsVerdictFor, large_check, large_claim_of}
 use Rattle.tcc_verdict.specs.LargeTexts.{large_status, large_verdict_text}
@@ -166,7 +166,7 @@ module _ (s : Sessions) (limits : KeepsLimits s) (named : HasNames s) (level : L
 
 -- ---- above them
 
-module _ (kept : (h : History) (k : LargeCertificate) → AllHold (rules_of h k) → (said : Verdict Rule) → IsVerdictOf (rules_of h k) said → said ≡ verdict.Accepted)
+module _ (kept : (h : History) (k : LargeCertificate) → AllHold (rules_of h k) → (said : Verdict LargeRule) → IsVerdictOf (rules_of h k) said → said ≡ verdict.Accepted)
     (s : Sessions) (k : LargeCertificate) (room : HasLargeText k) (back : large_certificate_read (large_certificate_text k) ≡ Ok k)
     (keeps : AllHold (rules_of (history s) k)) where
   abbrev large_accepted : LargeJudgement
@@ -185,7 +185,7 @@ module _ (kept : (h : History) (k : LargeCertificate) → AllHold (rules_of h k)
   large_others (Ok (Large said v)) (version, read, reads, claims, says) =
       let same : k ≡ read = (let both : Ok k ≡ Ok read = sym back ∙ reads in cc both) in
       ap (λ (c : LargeClaim). Large c v) (claims ∙ ap large_claim_of (sym same))
-      ∙ ap (λ (w : Verdict Rule). Large (large_claim_of k) w)
+      ∙ ap (λ (w : Verdict LargeRule). Large (large_claim_of k) w)
       (kept (history s) read (subst (λ (one : LargeCertificate). AllHold (rules_of (history s) one)) same keeps) v says)
   large_others (Err (Text fault)) (inl reading, kind) = absurd (apart (sym (claim_version k) ∙ reading.0))
   large_others (Err (Text fault)) (inr reading, kind) = large_failed fault reading.1 kind

@@ -30,7 +30,7 @@ use Rattle.tcc_slices.specs.Slices.{IsSliceOf}
 use Rattle.tcc_slices.specs.Texts.{records_text}
 use Rattle.tcc_judge.specs.Claims.{links_claim_of}
 use Rattle.tcc_judge.specs.Verdicts.{rules_of}
-use Rattle.tcc_judge.specs.declared.verdict.Rule.{Rule}
+use Rattle.tcc_judge.specs.declared.verdict.LargeRule.{LargeRule}
 use Rattle.tcc_rules.specs.declared.verdict.Verdict.{Verdict}
 use Rattle.tcc_rules.specs.declared.verdict.Verdict.TheVariants as verdict
 use Rattle.tcc_print.specs.Courses.{AreSaidFaults, Contents, Gains, IsCourse, Said, TextFails, answer_said, faults_said}
@@ -220,4 +220,4 @@ IsLargeRun options bytes before after files files' code =
 abbrev pub IsAcceptedOf : History → Said → Type 0
 IsAcceptedOf h said =
     (claim : LargeCertificate) × (said.certificate ≡ Some (large_certificate_text claim)) × AllHold (rules_of h claim)
-    × ((v : Verdict Rule) → IsVerdictOf (rules_of h claim) v → v ≡ verdict.Accepted)
+    × ((v : Verdict LargeRule) → IsVerdictOf (rules_of h claim) v → v ≡ verdict.Accepted)

@@ -13,4 +13,4 @@ mod watching;
 
 pub use explained::{Explained, explain_large_snapshot};
 pub use running::run_large;
-pub use watching::{Stage, Watcher};
+pub use watching::{RunStage, Watcher};

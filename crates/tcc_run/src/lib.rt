@@ -21,7 +21,7 @@ pub use audit_fault::AuditFault;
 pub use auditing::audit;
 pub use explain::run_explain;
 pub use headline::{explain_snapshot, explain_snapshot_next};
-pub use large::{Explained, Stage, Watcher, explain_large_snapshot, run_large};
+pub use large::{Explained, RunStage, Watcher, explain_large_snapshot, run_large};
 pub use naming::names;
 pub use tcc_explain::{Gate, OpenGate};
 pub use tcc_print::{Options, RunError, Status, json, printing, texts, verdict_text};

@@ -23,15 +23,15 @@ const STARTS: u64 = 5;
 
 /// Holds its first caller until a given number of starts were entered.
 #[derive(Drop)]
-struct Holding {
+struct HeldStart {
     until: u64,
     entered: AtomicU64,
     missed: AtomicU64,
 }
 
-impl Holding {
-    fn new(until: u64) -> Holding {
-        Holding {
+impl HeldStart {
+    fn new(until: u64) -> HeldStart {
+        HeldStart {
             until,
             entered: AtomicU64::new(0),
             missed: AtomicU64::new(0),
@@ -45,7 +45,7 @@ impl Holding {
     }
 }
 
-impl Gate for Holding {
+impl Gate for HeldStart {
     fn enter(&self, _worker: u32, _start: u32) {
         if self.entered.fetch_add(1, Ordering::SeqCst) == 0 {
             for _ in 0..100_000_000u32 {
@@ -60,7 +60,7 @@ impl Gate for Holding {
 }
 
 /// The answer is that of the history, and the workers met.
-fn assert_answer(rt: &impl Abort, alloc: Global, answer: Option<Answer>, gate: &Holding) {
+fn assert_answer(rt: &impl Abort, alloc: Global, answer: Option<Answer>, gate: &HeldStart) {
     let answer = answer.expect(rt, "an answer");
     let out = text_of(alloc, &answer).expect(rt, "a text");
     assert_eq!(rt; out.as_slice(), OWN_TEXT.as_bytes());
@@ -82,10 +82,10 @@ fn snapshots(rt: HostRuntime) {
     let snapshot = twice(&rt, alloc);
     let two = workers_of(&rt, 2);
     for until in [2, STARTS] {
-        let gate = Holding::new(until);
+        let gate = HeldStart::new(until);
         let answer = explain(&rt, alloc, &snapshot, Level::Causal, two, &gate);
         assert_answer(&rt, alloc, answer.ok(), &gate);
-        let gate = Holding::new(until);
+        let gate = HeldStart::new(until);
         let answer = explain_snapshot(&rt, alloc, &snapshot, Level::Causal, two, &gate);
         assert_answer(&rt, alloc, answer.ok(), &gate);
     }
@@ -101,14 +101,14 @@ fn histories_that_go_on(rt: HostRuntime) {
         panic!(&rt; "no anomaly");
     };
     for until in [2, STARTS] {
-        let gate = Holding::new(until);
+        let gate = HeldStart::new(until);
         let answer = explain_next(&rt, alloc, &snapshot, &earlier, workers_of(&rt, 2), &gate);
         assert_answer(&rt, alloc, answer.ok(), &gate);
     }
 }
 
 /// A run by two workers, which gives the history's answer.
-fn run(rt: &(impl Threads + Abort + Sync), alloc: Global, file: Option<Vec<u8>>, gate: &Holding) {
+fn run(rt: &(impl Threads + Abort + Sync), alloc: Global, file: Option<Vec<u8>>, gate: &HeldStart) {
     let options = Options {
         level: Level::Causal,
         workers: workers_of(rt, 2),
@@ -136,7 +136,7 @@ fn run(rt: &(impl Threads + Abort + Sync), alloc: Global, file: Option<Vec<u8>>,
 fn runs(rt: HostRuntime) {
     let alloc = rt.alloc();
     for until in [2, STARTS] {
-        let gate = Holding::new(until);
+        let gate = HeldStart::new(until);
         run(&rt, alloc, Some(Vec::new(alloc)), &gate);
         gate.assert_met(&rt);
     }
@@ -145,13 +145,13 @@ fn runs(rt: HostRuntime) {
 /// Where none is wanted, nothing is searched.
 #[test]
 fn runs_without_a_certificate(rt: HostRuntime) {
-    let gate = Holding::new(2);
+    let gate = HeldStart::new(2);
     run(&rt, rt.alloc(), None, &gate);
     assert_eq!(&rt; gate.entered.load(Ordering::SeqCst), 0);
 }
 
 /// The answer for a book with the same history.
-fn audited(rt: &(impl Threads + Wait + Sync), alloc: Global, gate: &Holding) -> Option<Answer> {
+fn audited(rt: &(impl Threads + Wait + Sync), alloc: Global, gate: &HeldStart) -> Option<Answer> {
     let book = Book::new(alloc).ok()?;
     let mut passes = Vec::new(alloc);
     for pass in opened(rt, alloc, &book, &[b"a", b"b"])? {
@@ -166,7 +166,7 @@ fn audited(rt: &(impl Threads + Wait + Sync), alloc: Global, gate: &Holding) -> 
 fn audits(rt: HostRuntime) {
     let alloc = rt.alloc();
     for until in [2, STARTS] {
-        let gate = Holding::new(until);
+        let gate = HeldStart::new(until);
         let answer = audited(&rt, alloc, &gate);
         assert_answer(&rt, alloc, answer, &gate);
     }

@@ -15,7 +15,7 @@ use Rattle.tcc_rules.specs.declared.verdict.Rule.{Rule}
 use Rattle.tcc_rules.specs.declared.verdict.Verdict.{Verdict}
 use Rattle.tcc_rules.specs.declared.verdict.Verdict.TheVariants as verdict
 use Rattle.tcc_judge.specs.Verdicts.{rules_of}
-use Rattle.tcc_judge.specs.declared.verdict.Rule.{Rule as LargeRule}
+use Rattle.tcc_judge.specs.declared.verdict.LargeRule.{LargeRule}
 use Rattle.tcc_print.specs.Statuses.{code_of, verdict_status}
 use Rattle.tcc_verdict.specs.Checking.{IsCheckRunBy}
 use Rattle.tcc_verdict.specs.private.Stages.{TellsRunErrors}

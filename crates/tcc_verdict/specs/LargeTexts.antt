@@ -2,7 +2,7 @@
 use Rattle.std.specs.Prelude.{ℕ, true, false, List, ◌++◌, Result, Ok, Err, codes, decimal}
 use Rattle.tcc_rules.specs.declared.judgement.Claim.TheVariants as claim
 use Rattle.tcc_judge.specs.Verdicts.{rule_number}
-use Rattle.tcc_judge.specs.declared.verdict.Rule.{Rule}
+use Rattle.tcc_judge.specs.declared.verdict.LargeRule.{LargeRule}
 use Rattle.tcc_rules.specs.declared.verdict.Verdict.{Verdict}
 use Rattle.tcc_rules.specs.declared.verdict.Verdict.TheVariants as verdict
 use Rattle.tcc_print.specs.Statuses.{run_error_status, verdict_status}
@@ -21,7 +21,7 @@ large_accepted_text (Cycle cost true) = accepted_text (claim.Cycle cost)
 large_accepted_text (Cycle cost false) = codes "accepted: cycle, " ++ (decimal cost ++ codes " steps, least not claimed\n")
 
 -- the line of a claim and the verdict on it
-abbrev pub large_line : LargeClaim → Verdict Rule → List ℕ
+abbrev pub large_line : LargeClaim → Verdict LargeRule → List ℕ
 large_line k verdict.Accepted = large_accepted_text k
 large_line k (verdict.Rejected rule at) = rejected_text (rule_number rule) at
 

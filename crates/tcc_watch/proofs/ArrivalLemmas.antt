@@ -22,7 +22,7 @@ use Rattle.tcc_watch.specs.declared.arrivals.Arrivals.{Arrivals}
 use Rattle.tcc_watch.specs.declared.delivered.Delivered.{Delivered}
 use Rattle.tcc_watch.specs.declared.kept.Kept.{Kept}
 use Rattle.tcc_watch.specs.declared.lines.Line.{Line}
-use Rattle.tcc_watch.specs.declared.verdict.Verdict.TheVariants as verdict
+use Rattle.tcc_watch.specs.declared.verdict.WatchVerdict.TheVariants as verdict
 use Rattle.tcc_watch.specs.private.Arrivals.{AreArrivals, IsFirstReady, IsOpen, NoneWaits}
 use Rattle.tcc_watch.specs.private.Deciding.{IsKnownAs}
 use Rattle.tcc_watch.specs.private.Keeping.{ComesNext, Growth, IsKept, history_of, nothing}

@@ -13,7 +13,7 @@ use crate::gaps::are_gaps;
 use crate::hints::{Hints, missing};
 use crate::kept::{Kept, ready_sources};
 use crate::lines::{Line, add_waiting, next_of};
-use crate::verdict::Verdict;
+use crate::verdict::WatchVerdict;
 use std::alloc::Global;
 use tcc_graph::Level;
 use tcc_txn::{Name, NoMemory, Txn};
@@ -152,28 +152,28 @@ impl Arrivals {
     }
 
     /// The verdict while a transaction waits: unresolved, where it reads what nobody has written; else it isn't known.
-    fn waiting_verdict(&self) -> Option<Verdict>
+    fn waiting_verdict(&self) -> Option<WatchVerdict>
         ensures { (s : Sessions) (level : Level) → AreArrivals s self.now → IfSome result (IsVerdict s level) }
     {
         if are_gaps(&self.lines, &self.kept.values) {
-            return Some(Verdict::Unresolved);
+            return Some(WatchVerdict::Unresolved);
         }
         None
     }
 
     /// The verdict, where it is known with nothing more decided. It isn't where a transaction waits, unless
     /// for a value that nobody has written; nor at `Atomic` where there is a cycle at `Causal`.
-    pub(crate) fn verdict(&self, level: Level) -> Option<Verdict>
+    pub(crate) fn verdict(&self, level: Level) -> Option<WatchVerdict>
         ensures { (s : Sessions) → AreArrivals s self.now → IfSome result (IsVerdict s level) }
     {
         if is_waiting(&self.lines) {
             return self.waiting_verdict();
         }
         if !self.kept.decided.has_cycle {
-            return Some(Verdict::Consistent);
+            return Some(WatchVerdict::Consistent);
         }
         match level {
-            Level::Causal => Some(Verdict::Anomaly),
+            Level::Causal => Some(WatchVerdict::Anomaly),
             Level::Atomic => None,
         }
     }

@@ -5,7 +5,7 @@ ghost use Rattle.tcc_watch.specs.private.Gaps.{AreGaps, HasGap, IsGap, IsNowhere
 
 use crate::lines::Line;
 use crate::operations::{are_putting, visible_write};
-use crate::values::Values;
+use crate::values::WrittenValues;
 use tcc_txn::{Name, Op};
 
 /// Whether a transaction that waits in a session writes a value at a key.
@@ -25,7 +25,7 @@ fn is_coming(lines: &[Line], key: &Name, value: u64) -> bool
 }
 
 /// Whether nobody has written a value at a key.
-fn is_nowhere(lines: &[Line], values: &Values, key: &Name, value: u64) -> bool
+fn is_nowhere(lines: &[Line], values: &WrittenValues, key: &Name, value: u64) -> bool
     ensures { result ≡ true → IsNowhere lines.now values.now key.now value }
 {
     if value == 0 {
@@ -38,7 +38,7 @@ fn is_nowhere(lines: &[Line], values: &Values, key: &Name, value: u64) -> bool
 }
 
 /// Whether an operation after some others reads a value of another transaction that nobody has written.
-fn is_gap(lines: &[Line], values: &Values, before: &[Op], op: &Op) -> bool
+fn is_gap(lines: &[Line], values: &WrittenValues, before: &[Op], op: &Op) -> bool
     ensures { result ≡ true → IsGap lines.now values.now before.now op.now }
 {
     let Op::Get { key, value } = op else {
@@ -51,7 +51,7 @@ fn is_gap(lines: &[Line], values: &Values, before: &[Op], op: &Op) -> bool
 }
 
 /// Whether one of some operations is such a read.
-fn has_gap(lines: &[Line], values: &Values, ops: &[Op]) -> bool
+fn has_gap(lines: &[Line], values: &WrittenValues, ops: &[Op]) -> bool
     ensures { result ≡ true → HasGap lines.now values.now ops.now }
 {
     for index in 0..ops.len() {
@@ -63,7 +63,7 @@ fn has_gap(lines: &[Line], values: &Values, ops: &[Op]) -> bool
 }
 
 /// Whether the first transaction that waits in a session was committed, and reads a value that nobody has written.
-fn waits_for_nothing(lines: &[Line], values: &Values, line: &Line) -> bool
+fn waits_for_nothing(lines: &[Line], values: &WrittenValues, line: &Line) -> bool
     ensures { result ≡ true → WaitsForNothing lines.now values.now line.now }
 {
     let Some(txn) = line.waiting.front() else {
@@ -76,7 +76,7 @@ fn waits_for_nothing(lines: &[Line], values: &Values, line: &Line) -> bool
 }
 
 /// Whether in one of the sessions the first transaction that waits was committed, and reads a value that nobody has written.
-pub(crate) fn are_gaps(lines: &[Line], values: &Values) -> bool
+pub(crate) fn are_gaps(lines: &[Line], values: &WrittenValues) -> bool
     ensures { result ≡ true → AreGaps lines.now values.now }
 {
     for index in 0..lines.len() {

@@ -3,7 +3,7 @@
 //! came last, after which others are looked for, and the number of transactions that wait.
 
 use crate::operations::visible_write;
-use crate::values::Values;
+use crate::values::WrittenValues;
 use std::alloc::Global;
 use tcc_txn::{Name, NoMemory, Op};
 
@@ -16,7 +16,7 @@ pub(crate) struct Hints {
 }
 
 /// The value that an operation after some others reads from another transaction, where nobody has written it.
-fn missing_at(values: &Values, before: &[Op], op: &Op) -> Option<(Name, u64)> {
+fn missing_at(values: &WrittenValues, before: &[Op], op: &Op) -> Option<(Name, u64)> {
     let Op::Get { key, value } = op else {
         return None;
     };
@@ -30,7 +30,7 @@ fn missing_at(values: &Values, before: &[Op], op: &Op) -> Option<(Name, u64)> {
 }
 
 /// The first value that some operations read from another transaction, and that nobody has written.
-pub(crate) fn missing(values: &Values, ops: &[Op]) -> Option<(Name, u64)> {
+pub(crate) fn missing(values: &WrittenValues, ops: &[Op]) -> Option<(Name, u64)> {
     for index in 0..ops.len() {
         if let Some(found) = missing_at(values, &ops[..index], &ops[index]) {
             return Some(found);
@@ -82,7 +82,7 @@ impl Hints {
     }
 
     /// Whether the first transaction of a session is known to wait for a value that hasn't come.
-    pub(crate) fn still_waits(&self, values: &Values, index: usize) -> bool {
+    pub(crate) fn still_waits(&self, values: &WrittenValues, index: usize) -> bool {
         match self.missing.get(index) {
             Some(Some(missing)) => !values.contains_key(&missing.0, missing.1),
             _ => false,

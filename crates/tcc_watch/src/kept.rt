@@ -8,7 +8,7 @@ ghost use Rattle.tcc_watch.specs.private.Keeping.{ComesNext, Growth, IsKept, IsR
 use crate::at::At;
 use crate::decided::Decided;
 use crate::operations::written_keys;
-use crate::values::{Values, are_unwritten, note_values, sources};
+use crate::values::{WrittenValues, are_unwritten, note_values, sources};
 use std::alloc::Global;
 use tcc_txn::{Name, NoMemory, Txn};
 
@@ -24,7 +24,7 @@ pub(crate) struct Entered {
 #[derive(Drop)]
 pub(crate) struct Kept {
     pub entries: Vec<Entered>,
-    pub values: Values,
+    pub values: WrittenValues,
     pub decided: Decided,
 }
 
@@ -32,7 +32,7 @@ pub(crate) struct Kept {
 /// needs no sources.
 pub(crate) fn ready_sources(
     alloc: Global,
-    values: &Values,
+    values: &WrittenValues,
     txn: &Txn,
 ) -> Result<Option<Vec<(Name, u32)>>, NoMemory>
     ensures { IfOk result (λ found. IfSome found (λ reads. IsReady values.now txn.now reads.items)) }
@@ -57,7 +57,7 @@ impl Kept {
         let decided = Decided::new(alloc)?;
         Ok(Kept {
             entries: Vec::new(alloc),
-            values: Values::new(alloc),
+            values: WrittenValues::new(alloc),
             decided,
         })
     }

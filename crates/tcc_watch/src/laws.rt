@@ -5,7 +5,7 @@ ghost use Rattle.tcc_reads.specs.{Faults.read_faults, Sources.history};
 ghost use Rattle.tcc_reads.specs.History.{Entry, History, count};
 ghost use Rattle.tcc_graph.specs.{Levels.Judged, Levels.judged, Links.IsLink, Links.cost, Routes.HasCycle, Routes.IsCycle, Walks.IsReached, declared.level.Level.Level, declared.link.Link.Link};
 ghost use Rattle.tcc_watch.specs.Ledger.{IsLedger};
-ghost use Rattle.tcc_watch.specs.{Verdicts.IsVerdict, declared.verdict.Verdict.Verdict};
+ghost use Rattle.tcc_watch.specs.{Verdicts.IsVerdict, declared.verdict.WatchVerdict.WatchVerdict};
 ghost use Rattle.tcc_watch.specs.Delivered.{AllWait, AreAlike, IsBy, IsDelivered, IsDeliveryOf, MayCome, with_last};
 ghost use Rattle.tcc_watch.specs.Newest.{AreCheaper, Closes, Continues, HasReader, IsNewestReader, MayAllCome, with_more};
 
@@ -48,7 +48,7 @@ pub fn ledgers()
 
 /// A snapshot has only one verdict at a level, in whatever order its sessions came, and whatever was known before.
 pub fn verdicts()
-    ensures { (s : Sessions) (level : Level) (v : Verdict) (w : Verdict) → IsVerdict s level v → IsVerdict s level w → v ≡ w }
+    ensures { (s : Sessions) (level : Level) (v : WatchVerdict) (w : WatchVerdict) → IsVerdict s level v → IsVerdict s level w → v ≡ w }
 {}
 
 /// Where transactions have their numbers in the order of delivery, the newest one that a cycle names is no end of its links. It's the

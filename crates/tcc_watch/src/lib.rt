@@ -25,5 +25,5 @@ mod verdict;
 mod watch;
 mod writers;
 
-pub use verdict::Verdict;
+pub use verdict::WatchVerdict;
 pub use watch::Watch;

@@ -12,12 +12,12 @@ use tcc_txn::{Name, NoMemory, Op, SymbolTable};
 /// For each key and value that was written, who writes it visibly, by number; none where no committed transaction does. A key is looked
 /// up by its number.
 #[derive(Drop)]
-pub(crate) struct Values {
+pub(crate) struct WrittenValues {
     keys: SymbolTable,
     numbers: BTreeMap<(u32, u64), Option<u32>>,
 }
 
-impl Model for Values {
+impl Model for WrittenValues {
     ghost use Rattle.tcc_watch.specs.private.Values.{AreValuesOf, ValueMap};
 
     ghost Value = { ValueMap };
@@ -42,12 +42,12 @@ fn note_at(
     }
 }
 
-impl Values {
+impl WrittenValues {
     /// Nothing was written.
-    pub(crate) fn new(alloc: Global) -> Values
+    pub(crate) fn new(alloc: Global) -> WrittenValues
         ensures { (x : List ℕ) (v : ℕ) → noted result x v ≡ None }
     {
-        Values {
+        WrittenValues {
             keys: SymbolTable::new(alloc),
             numbers: BTreeMap::new(alloc),
         }
@@ -81,7 +81,7 @@ impl Values {
 }
 
 /// From which transaction a value is read at a key, by its number, where that has come.
-fn source_of(values: &Values, key: &Name, value: u64) -> Option<u32>
+fn source_of(values: &WrittenValues, key: &Name, value: u64) -> Option<u32>
     ensures { result ≡ source_in values.now key.now value }
 {
     if value == 0 {
@@ -96,7 +96,7 @@ fn source_of(values: &Values, key: &Name, value: u64) -> Option<u32>
 /// Adds the source of what an operation after some others reads from another transaction; false where that hasn't come, or where the
 /// operation doesn't read what its own transaction wrote.
 fn add_source(
-    values: &Values,
+    values: &WrittenValues,
     before: &[Op],
     op: &Op,
     reads: &mut Vec<(Name, u32)>,
@@ -122,7 +122,7 @@ fn add_source(
 /// have its value.
 pub(crate) fn sources(
     alloc: Global,
-    values: &Values,
+    values: &WrittenValues,
     ops: &[Op],
 ) -> Result<Option<Vec<(Name, u32)>>, NoMemory>
     ensures { IfOk result (λ found. IfSome found (λ reads. AreSources values.now ops.now reads.items)) }
@@ -137,7 +137,7 @@ pub(crate) fn sources(
 }
 
 /// Whether an operation after some others writes nothing that was written.
-fn is_unwritten(values: &Values, before: &[Op], op: &Op) -> bool
+fn is_unwritten(values: &WrittenValues, before: &[Op], op: &Op) -> bool
     ensures { result ≡ is_unwritten values.now before.now op.now }
 {
     match op {
@@ -149,7 +149,7 @@ fn is_unwritten(values: &Values, before: &[Op], op: &Op) -> bool
 }
 
 /// Whether operations write no value that was written, and none twice.
-pub(crate) fn are_unwritten(values: &Values, ops: &[Op]) -> bool
+pub(crate) fn are_unwritten(values: &WrittenValues, ops: &[Op]) -> bool
     ensures { result ≡ true → AreUnwritten values.now ops.now }
 {
     for index in 0..ops.len() {
@@ -172,7 +172,12 @@ fn number_shown(ops: &[Op], number: Option<u32>, key: &Name, value: u64) -> Opti
 }
 
 /// Notes what an operation among others writes: that it comes from a number, where it is visible.
-fn note_value(values: &mut Values, ops: &[Op], number: Option<u32>, op: &Op) -> Result<(), NoMemory>
+fn note_value(
+    values: &mut WrittenValues,
+    ops: &[Op],
+    number: Option<u32>,
+    op: &Op,
+) -> Result<(), NoMemory>
     ensures { OnOk result (NotesValue ops.now number op.now values.old values.new) }
 {
     let Op::Put { key, value } = op else {
@@ -185,7 +190,7 @@ fn note_value(values: &mut Values, ops: &[Op], number: Option<u32>, op: &Op) -> 
 
 /// Notes what the operations of a transaction write, by its number, if it has one.
 pub(crate) fn note_values(
-    values: &mut Values,
+    values: &mut WrittenValues,
     ops: &[Op],
     number: Option<u32>,
 ) -> Result<(), NoMemory>

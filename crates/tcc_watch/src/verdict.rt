@@ -13,7 +13,7 @@ use tcc_txn::{LargeSnapshot, NoMemory};
 
 /// The verdict of a snapshot at a level.
 #[derive(Clone, Copy, Debug, PartialEq, Eq)]
-pub enum Verdict {
+pub enum WatchVerdict {
     /// Each read has its source, and there is a commit order.
     Consistent,
     /// Each read has its source, and there is none: some links lead in a circle.
@@ -23,22 +23,22 @@ pub enum Verdict {
 }
 
 /// The verdict where some operations have no source.
-fn unresolved(fault: ResolveFault) -> Result<Verdict, NoMemory>
+fn unresolved(fault: ResolveFault) -> Result<WatchVerdict, NoMemory>
     ensures { (s : Sessions) (level : Level) → IsRefusal s fault → IfOk result (IsVerdict s level) }
 {
     match fault {
-        ResolveFault::Reads(_) => Ok(Verdict::Unresolved),
+        ResolveFault::Reads(_) => Ok(WatchVerdict::Unresolved),
         ResolveFault::NoMemory => Err(NoMemory),
     }
 }
 
 /// The verdict where each read has its source.
-fn judge(alloc: Global, graph: &LargeGraph, level: Level) -> Result<Verdict, NoMemory>
+fn judge(alloc: Global, graph: &LargeGraph, level: Level) -> Result<WatchVerdict, NoMemory>
     ensures { (s : Sessions) → read_faults s ≡ [] → graph.now ≡ history s → IfOk result (IsVerdict s level) }
 {
     match order(alloc, graph, level)? {
-        Some(_first) => Ok(Verdict::Consistent),
-        None => Ok(Verdict::Anomaly),
+        Some(_first) => Ok(WatchVerdict::Consistent),
+        None => Ok(WatchVerdict::Anomaly),
     }
 }
 
@@ -47,7 +47,7 @@ pub(crate) fn decide(
     alloc: Global,
     snapshot: &LargeSnapshot,
     level: Level,
-) -> Result<Verdict, NoMemory>
+) -> Result<WatchVerdict, NoMemory>
     ensures { IfOk result (IsVerdict snapshot.now level) }
 {
     match resolve_large(alloc, snapshot) {

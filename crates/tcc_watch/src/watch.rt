@@ -6,7 +6,7 @@ ghost use Rattle.tcc_txn.specs.declared.limits.Limits.TheVariants.{Large};
 ghost use Rattle.tcc_watch.specs.Verdicts.{IsVerdict};
 
 use crate::arrivals::{Arrivals, with_arrival};
-use crate::verdict::{Verdict, decide};
+use crate::verdict::{WatchVerdict, decide};
 use std::alloc::Global;
 use std::marker::Model;
 use tcc_graph::Level;
@@ -65,7 +65,7 @@ impl Watch {
 
     /// The verdict of all that was taken. It is known already where nothing waits, at `Atomic` as long as there is no anomaly at
     /// `Causal`. It is known too where a committed transaction waits for a value that nobody has written. Else all is decided anew.
-    pub fn answer(&self, alloc: Global, level: Level) -> Result<Verdict, NoMemory>
+    pub fn answer(&self, alloc: Global, level: Level) -> Result<WatchVerdict, NoMemory>
         ensures { IfOk result (IsVerdict self.now level) }
     {
         match self.known(level) {
@@ -75,7 +75,7 @@ impl Watch {
     }
 
     /// The verdict, where it is known with nothing more decided.
-    fn known(&self, level: Level) -> Option<Verdict>
+    fn known(&self, level: Level) -> Option<WatchVerdict>
         ensures { IfSome result (IsVerdict self.now level) }
     {
         match &self.arrivals {

@@ -25,7 +25,7 @@ use Rattle.tcc_print.proofs.Courses.{HasAnswered, IsLast}
 use Rattle.tcc_print.proofs.LastSaid.{last_snapshot}
 use Rattle.tcc_print.proofs.Checkpoints.{at_end-none, finished-seal}
 use Rattle.tcc_watch_run.specs.Watching.{IsAnomaly, WasAnomaly, checkpoints_of}
-use Rattle.tcc_watch_run.specs.declared.told.Told.{Told}
+use Rattle.tcc_watch_run.specs.declared.told.SnapshotAnswer.{SnapshotAnswer}
 use Rattle.tcc_watch_run.specs.private.Stages.{IsSaidBy, Knows, KnowsLast, KnowsNow, course}
 
 -- ---- how many transactions the snapshots at seals have
@@ -165,7 +165,7 @@ none_said R (x ∷ snapshots) all = absurd all
 -- ---- at the checkpoint that comes
 
 module _ {R B : Type 0} (remaining : R → Option (List ℕ)) (quiet : Bool) (options : Options) (text : List ℕ) (old : RecordingWithin R B) (before now : Option (List ℕ))
-    (answered : Option (PreviousAnswer Told)) (way : HasAnswered remaining (course quiet options (checkpoints_of text)) text old before now answered) where
+    (answered : Option (PreviousAnswer SnapshotAnswer)) (way : HasAnswered remaining (course quiet options (checkpoints_of text)) text old before now answered) where
   abbrev ahead : List Sessions
   ahead = sealed_after way.taken way.ahead.items
 
@@ -211,7 +211,7 @@ module _ {R B : Type 0} (remaining : R → Option (List ℕ)) (quiet : Bool) (op
     knows : KnowsLast options (checkpoints_of text) s answered
     knows = by answered way.last
       where
-        by : (o : Option (PreviousAnswer Told)) → IsLast (course quiet options (checkpoints_of text)) o way.taken way.said → KnowsLast options (checkpoints_of text) s o
+        by : (o : Option (PreviousAnswer SnapshotAnswer)) → IsLast (course quiet options (checkpoints_of text)) o way.taken way.said → KnowsLast options (checkpoints_of text) s o
         by None known apart = none_yet known.1
         by (Some last) known apart =
             known_now last.outcome.has_told known.0 (omega (arith, more, known.1.0, apart)) known.1.1.1

@@ -16,7 +16,7 @@ use Rattle.tcc_answer.specs.Texts.{labels_text, order_text}
 use Rattle.tcc_answer.specs.declared.answer.Answer.TheVariants as answer
 use Rattle.tcc_explain.proofs.CertifiedOrder.{numbering_long}
 use Rattle.tcc_watch.specs.Verdicts.{IsVerdict}
-use Rattle.tcc_watch.specs.declared.verdict.Verdict.TheVariants as verdict
+use Rattle.tcc_watch.specs.declared.verdict.WatchVerdict.TheVariants as verdict
 use Rattle.tcc_print.specs.Courses.{Said}
 use Rattle.tcc_print.specs.Printed.{answered}
 use Rattle.tcc_print.specs.Saying.{IsTold}
@@ -26,13 +26,13 @@ use Rattle.tcc_print.specs.declared.status.Status.{Status}
 use Rattle.tcc_print.specs.declared.status.Status.TheVariants.{Anomaly, ReadFaults, Success, TooFew}
 use Rattle.tcc_run.specs.LargeRuns.{IsSaidWithLarge, bare_order}
 use Rattle.tcc_watch_run.specs.Watching.{IsAnomaly, IsConsistent, consistent_line, consistent_said, consistent_text}
-use Rattle.tcc_watch_run.specs.declared.told.Told.{Told}
+use Rattle.tcc_watch_run.specs.declared.told.SnapshotAnswer.{SnapshotAnswer}
 use Rattle.tcc_watch_run.specs.private.Stages.{IsAsExplained, Knows, course, told_said}
 use Rattle.tcc_watch_run.proofs.Watched.{anomaly_apart, kept, told_now}
 
 -- ---- by the verdict
 
-module _ (options : Options) (checkpoints : List Sessions) (s : Sessions) (told : Told) where
+module _ (options : Options) (checkpoints : List Sessions) (s : Sessions) (told : SnapshotAnswer) where
   pub consistent_quietly : (before : Bool) → IsVerdict s options.level verdict.Consistent → told_said told ≡ consistent_said options (history s)
       → told.has_told ≡ before → Knows options checkpoints s before → IsTold (course true options checkpoints) s told
   consistent_quietly before fine text known knows =
@@ -163,7 +163,7 @@ faults_found options s status (Order numbers fine ends) success few anomaly = ab
 faults_found options s status (Cycle is ends) success few anomaly = absurd (anomaly ends)
 faults_found options s status (Faults faulty ends) success few anomaly = faulty
 
-module _ (options : Options) (s : Sessions) (told : Told) (explains : IsAsExplained options s told) where
+module _ (options : Options) (s : Sessions) (told : SnapshotAnswer) (explains : IsAsExplained options s told) where
   found : Found options s told.status
   found = subst (Found options s) (sym (ap (λ (z : Said). z.status) explains.2)) (found_of options s explains.0 explains.1)
 

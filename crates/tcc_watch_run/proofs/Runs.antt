@@ -6,7 +6,7 @@ use Rattle.tcc_print.specs.declared.previous.PreviousAnswer.{PreviousAnswer}
 use Rattle.tcc_print.specs.declared.options.Options.{Options}
 use Rattle.tcc_print.specs.private.Courses.{AllAnswered, EndsEarly}
 use Rattle.tcc_watch_run.specs.Watching.{checkpoints_of}
-use Rattle.tcc_watch_run.specs.declared.told.Told.{Told}
+use Rattle.tcc_watch_run.specs.declared.told.SnapshotAnswer.{SnapshotAnswer}
 use Rattle.tcc_watch_run.specs.private.Stages.{IsRunBy, course, told_said}
 
 -- a run that ends early
@@ -16,7 +16,7 @@ early quiet options text before after code (said, last, is, ends, inl whole) = (
 early quiet options text before after code (said, last, is, ends, inr cuts) = (said, last, is, ends, inr cuts)
 
 -- one that has answered all
-pub concluded : (quiet : Bool) (options : Options) (text : List ℕ) (before after : Option (List ℕ)) (last : PreviousAnswer Told) (code : ℕ)
+pub concluded : (quiet : Bool) (options : Options) (text : List ℕ) (before after : Option (List ℕ)) (last : PreviousAnswer SnapshotAnswer) (code : ℕ)
     → AllAnswered (course quiet options (checkpoints_of text)) text before after last → code ≡ code_of last.outcome.status → IsRunBy quiet options text before after code
 concluded quiet options text before after last code (said, is, ends, known, out) by = (said, told_said last.outcome, inl is, ends, inl (out, by))
 

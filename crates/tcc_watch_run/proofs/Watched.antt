@@ -8,7 +8,7 @@ use Rattle.tcc_txn.specs.Transactions.{Transaction}
 use Rattle.tcc_reads.specs.History.{count}
 use Rattle.tcc_reads.specs.Sources.{history}
 use Rattle.tcc_watch.specs.Verdicts.{IsVerdict}
-use Rattle.tcc_watch.specs.declared.verdict.Verdict.TheVariants as verdict
+use Rattle.tcc_watch.specs.declared.verdict.WatchVerdict.TheVariants as verdict
 use Rattle.tcc_print.specs.Courses.{AreSaidFaults, Said}
 use Rattle.tcc_print.specs.Saying.{IsTold}
 use Rattle.tcc_print.specs.Statuses.{code_of, order_status}
@@ -18,7 +18,7 @@ use Rattle.tcc_print.specs.declared.status.Status.TheVariants.{Anomaly, ReadFaul
 use Rattle.tcc_run.specs.LargeRuns.{IsExplained}
 use Rattle.tcc_run.specs.declared.large.explained.Explained.{Explained}
 use Rattle.tcc_watch_run.specs.Watching.{IsAnomaly, consistent_line, consistent_said, still_line, still_said}
-use Rattle.tcc_watch_run.specs.declared.told.Told.{Told}
+use Rattle.tcc_watch_run.specs.declared.told.SnapshotAnswer.{SnapshotAnswer}
 use Rattle.tcc_watch_run.specs.private.Stages.{IsAsExplained, Knows, KnowsNow, course, told_said}
 
 -- the line of a consistent history, by the counts of what was taken
@@ -60,12 +60,12 @@ pub anomaly_apart : Anomaly ≢ ReadFaults
 anomaly_apart e = absurd (omega (arith, ap code_of e))
 
 -- those of what explain --large says, without its certificate
-pub explained_faults : (options : Options) (explained : Said) (told : Told) → told_said told ≡ record explained { certificate = None }
+pub explained_faults : (options : Options) (explained : Said) (told : SnapshotAnswer) → told_said told ≡ record explained { certificate = None }
     → AreSaidFaults options explained told.faults.items → AreSaidFaults options (told_said told) told.faults.items
 explained_faults options explained told is (inl all) = inl (is ∙ ap (λ (said : Said). record said { certificate = None }) all)
 explained_faults options explained told is (inr (apart, none)) = inr ((λ same. apart (sym (ap (λ (said : Said). said.status) is) ∙ same)), none)
 
-abbrev pub told_of : Explained → Bool → Told
+abbrev pub told_of : Explained → Bool → SnapshotAnswer
 told_of e has_told = record { text = e.text; status = e.status; faults = e.faults; has_told = has_told }
 
 pub as_explained : (options : Options) (s : Sessions) (e : Explained) (has_told : Bool) → IsExplained options s e
@@ -76,7 +76,7 @@ as_explained options s e has_told (said, is, text, status, faults) =
 
 -- ---- what is said
 
-module _ (options : Options) (checkpoints : List Sessions) (s : Sessions) (told : Told) where
+module _ (options : Options) (checkpoints : List Sessions) (s : Sessions) (told : SnapshotAnswer) where
   -- where there is no anomaly what was known stays
   pub kept : (before after : Bool) → after ≡ before → (IsAnomaly options s → ⊥) → Knows options checkpoints s before → KnowsNow options checkpoints s after
   kept true after is none knows = subst (λ (b : Bool). KnowsNow options checkpoints s b) (sym is) (inr knows)

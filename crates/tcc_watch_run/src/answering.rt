@@ -7,7 +7,7 @@ ghost use Rattle.tcc_watch_run.specs.private.Stages.{Knows, course, follower_of,
 
 use crate::following::Follower;
 use crate::quiet::Quietly;
-use crate::told::Told;
+use crate::told::SnapshotAnswer;
 use std::thread::Threads;
 use tcc_print::RunContext;
 use tcc_run::Watcher;
@@ -28,7 +28,7 @@ fn follow<T: Threads + Sync, G: Watcher>(
     follower: &mut Follower,
     snapshot: &LargeSnapshot,
     has_told: bool,
-) -> Result<Told, NoMemory>
+) -> Result<SnapshotAnswer, NoMemory>
     requires following { IsFollowing follower.old }
     requires nested { IsNested follower.old.watch snapshot.now }
     ensures told { (checkpoints : List Sessions) → Knows run.now.options.now checkpoints snapshot.now has_told
@@ -38,7 +38,7 @@ fn follow<T: Threads + Sync, G: Watcher>(
     ensures nests { OnOk result (IsNested follower.new.watch snapshot.now) }
 {
     let verdict = follower.decide(run, snapshot)?;
-    Told::of(run, verdict, follower.committed, snapshot, has_told)
+    SnapshotAnswer::of(run, verdict, follower.committed, snapshot, has_told)
 }
 
 impl Answerer {
@@ -48,7 +48,7 @@ impl Answerer {
         run: &RunContext<T, G>,
         snapshot: &LargeSnapshot,
         has_told: bool,
-    ) -> Result<Told, NoMemory>
+    ) -> Result<SnapshotAnswer, NoMemory>
         requires following { IsFollowing (follower_of self.old) }
         requires nested { IsNested (follower_of self.old).watch snapshot.now }
         ensures told { (quiet : Bool) (checkpoints : List Sessions) → is_quiet self.old ≡ quiet → Knows run.now.options.now checkpoints snapshot.now has_told

@@ -13,9 +13,9 @@ use std::alloc::Global;
 use std::collections::BTreeMap;
 use tcc_graph::Level;
 use tcc_print::RunContext;
-use tcc_run::{Stage, Watcher};
+use tcc_run::{RunStage, Watcher};
 use tcc_txn::{GrowFault, LargeSnapshot, Name, NoMemory, Txn};
-use tcc_watch::{Verdict, Watch};
+use tcc_watch::{Watch, WatchVerdict};
 
 /// A watch of a snapshot that grows, and how many transactions it has taken.
 #[derive(Drop)]
@@ -145,7 +145,7 @@ impl Follower {
         alloc: Global,
         snapshot: &LargeSnapshot,
         level: Level,
-    ) -> Result<Verdict, NoMemory>
+    ) -> Result<WatchVerdict, NoMemory>
         requires following { IsFollowing self.old }
         requires nested { IsNested self.old.watch snapshot.now }
         ensures caught { OnOk result (HasCaughtUp self.new snapshot.now) }
@@ -160,13 +160,13 @@ impl Follower {
         &mut self,
         run: &RunContext<T, G>,
         snapshot: &LargeSnapshot,
-    ) -> Result<Verdict, NoMemory>
+    ) -> Result<WatchVerdict, NoMemory>
         requires following { IsFollowing self.old }
         requires nested { IsNested self.old.watch snapshot.now }
         ensures caught { OnOk result (HasCaughtUp self.new snapshot.now) }
         ensures verdict { IfOk result (IsVerdict snapshot.now run.now.options.now.level) }
     {
-        run.gate.begin(Stage::Deciding);
+        run.gate.begin(RunStage::Deciding);
         let verdict = self.verdict(run.alloc, snapshot, run.options.level);
         run.gate.end();
         verdict

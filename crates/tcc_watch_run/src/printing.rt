@@ -9,7 +9,7 @@ ghost use Rattle.tcc_reads.specs.{History.count, Sources.history};
 ghost use Rattle.tcc_watch_run.specs.private.Stages.{course};
 
 use crate::counting::committed_of;
-use crate::told::Told;
+use crate::told::SnapshotAnswer;
 use std::alloc::Global;
 use std::io::Write;
 use tcc_base::send;
@@ -24,7 +24,7 @@ use tcc_txn::{LargeSnapshot, NoMemory};
 fn tell<T, G, W: Write, N: Write>(
     run: &RunContext<T, G>,
     snapshot: &LargeSnapshot,
-    told: &Told,
+    told: &SnapshotAnswer,
     out: &mut W,
     notes: &mut N,
 ) -> Result<(), u8>
@@ -43,10 +43,10 @@ fn tell<T, G, W: Write, N: Write>(
 pub(crate) fn print_new<T, G, W: Write, N: Write>(
     run: &RunContext<T, G>,
     snapshot: &LargeSnapshot,
-    found: Result<Told, NoMemory>,
+    found: Result<SnapshotAnswer, NoMemory>,
     out: &mut W,
     notes: &mut N,
-) -> Result<PreviousAnswer<Told>, u8>
+) -> Result<PreviousAnswer<SnapshotAnswer>, u8>
     ensures kept { IfOk result (λ last. found ≡ Ok last.outcome) }
     ensures said { (quiet : Bool) (checkpoints : List Sessions) → IfOk found (IsTold (course quiet run.now.options.now checkpoints) snapshot.now)
         → MatchResult result (SaysLast (course quiet run.now.options.now checkpoints) snapshot.now (W.contents out.old) (W.contents out.new))
@@ -71,10 +71,10 @@ pub(crate) fn print_unchanged<T, G, W: Write, N: Write>(
     run: &RunContext<T, G>,
     checkpoint: Checkpoint,
     snapshot: &LargeSnapshot,
-    last: PreviousAnswer<Told>,
+    last: PreviousAnswer<SnapshotAnswer>,
     out: &mut W,
     notes: &mut N,
-) -> Result<PreviousAnswer<Told>, u8>
+) -> Result<PreviousAnswer<SnapshotAnswer>, u8>
     ensures kept { IfOk result (λ now. now ≡ last) }
     ensures said { (quiet : Bool) (checkpoints : List Sessions) → last.transactions ≡ transaction_count snapshot.now
         → SaysAt (course quiet run.now.options.now checkpoints) checkpoint snapshot.now (Some last) (W.contents out.old) (W.contents out.new) result }
@@ -103,7 +103,7 @@ fn too_few(alloc: Global, required: u32, snapshot: &LargeSnapshot) -> Result<Vec
 pub(crate) fn note_few<T, G, N: Write>(
     run: &RunContext<T, G>,
     snapshot: &LargeSnapshot,
-    told: &Told,
+    told: &SnapshotAnswer,
     notes: &mut N,
 )
     ensures few { told.now.status ≡ statuses.TooFew

@@ -9,7 +9,7 @@ ghost use Rattle.tcc_watch_run.specs.private.Stages.{Knows, course, told_said};
 use crate::answering::Answerer;
 use crate::following::Follower;
 use crate::running::run_reader;
-use crate::told::Told;
+use crate::told::SnapshotAnswer;
 use std::alloc::Global;
 use std::io::{Read, Write};
 use std::thread::Threads;
@@ -17,7 +17,7 @@ use tcc_print::printing::print_memory;
 use tcc_print::{Options, RunContext};
 use tcc_run::Watcher;
 use tcc_txn::{LargeSnapshot, NoMemory};
-use tcc_watch::Verdict;
+use tcc_watch::WatchVerdict;
 
 /// A watch of so many sessions costs about as much as this many decisions of the same transactions.
 const WATCH_COST: usize = 5;
@@ -99,7 +99,7 @@ impl Quietly {
         run: &RunContext<T, G>,
         snapshot: &LargeSnapshot,
         has_told: bool,
-    ) -> Result<Told, NoMemory>
+    ) -> Result<SnapshotAnswer, NoMemory>
         requires following { IsFollowing self.old.follower }
         requires nested { IsNested self.old.follower.watch snapshot.now }
         ensures told { (checkpoints : List Sessions) → Knows run.now.options.now checkpoints snapshot.now has_told
@@ -114,15 +114,15 @@ impl Quietly {
         self.costs.answer(transactions);
         if !is_watched {
             self.costs.decide(transactions);
-            return Told::anew(run, snapshot, has_told);
+            return SnapshotAnswer::anew(run, snapshot, has_told);
         }
         let verdict = self.follower.decide(run, snapshot)?;
         self.costs.watch(transactions);
-        if verdict != Verdict::Consistent {
+        if verdict != WatchVerdict::Consistent {
             self.costs.decide(transactions);
         }
         let committed = self.follower.committed;
-        Told::quietly(run, verdict, committed, snapshot, has_told)
+        SnapshotAnswer::quietly(run, verdict, committed, snapshot, has_told)
     }
 }
 

@@ -12,19 +12,19 @@ ghost use Rattle.tcc_watch_run.specs.private.Stages.{IsRunBy, KnowsLast, course,
 use crate::answering::Answerer;
 use crate::following::Follower;
 use crate::printing::{note_few, print_new, print_unchanged};
-use crate::told::Told;
+use crate::told::SnapshotAnswer;
 use std::alloc::Global;
 use std::io::{Read, Write};
 use std::thread::Threads;
 use tcc_print::printing::{print_endless, print_memory};
 use tcc_print::{Options, PreviousAnswer, RunContext, unchanged};
 use tcc_rows::{Checkpoint, LargeRecording, RowFault, RowFaultKind};
-use tcc_run::{Stage, Watcher};
+use tcc_run::{RunStage, Watcher};
 use tcc_txn::{LargeSnapshot, NoMemory};
 use tcc_verdict::stop;
 
 /// Whether an anomaly was reported so far.
-fn was_told(last: &Option<PreviousAnswer<Told>>) -> bool
+fn was_told(last: &Option<PreviousAnswer<SnapshotAnswer>>) -> bool
     ensures { result ≡ was_told last.now }
 {
     match last {
@@ -40,10 +40,10 @@ fn answer_checkpoint<T: Threads + Sync, W: Write, N: Write, G: Watcher>(
     checkpoint: Checkpoint,
     answerer: &mut Answerer,
     snapshot: &LargeSnapshot,
-    last: Option<PreviousAnswer<Told>>,
+    last: Option<PreviousAnswer<SnapshotAnswer>>,
     out: &mut W,
     notes: &mut N,
-) -> Result<PreviousAnswer<Told>, u8>
+) -> Result<PreviousAnswer<SnapshotAnswer>, u8>
     requires following { IsFollowing (follower_of answerer.old) }
     requires nested { IsNested (follower_of answerer.old).watch snapshot.now }
     ensures said { (quiet : Bool) (checkpoints : List Sessions) → is_quiet answerer.old ≡ quiet → KnowsLast run.now.options.now checkpoints snapshot.now last
@@ -78,7 +78,7 @@ fn read_on<R: Read + Drop, T, G: Watcher>(
         → FailsBehind Large taken fault.row all) }
     ensures goes_on { OnOk result (fault_met recording.new.rows ≡ None) }
 {
-    run.gate.begin(Stage::Reading);
+    run.gate.begin(RunStage::Reading);
     let checkpoint = recording.advance(run.alloc);
     run.gate.end();
     checkpoint
@@ -92,7 +92,7 @@ fn answer_all<R: Read + Drop, T: Threads + Sync, W: Write, N: Write, G: Watcher>
     recording: &mut LargeRecording<R>,
     out: &mut W,
     notes: &mut N,
-) -> Result<PreviousAnswer<Told>, u8>
+) -> Result<PreviousAnswer<SnapshotAnswer>, u8>
     requires following { IsFollowing (follower_of answerer.old) }
     requires nested { IsNested (follower_of answerer.old).watch recording.old.snapshot }
     ensures { (bytes : List ℕ) → IsRecording Large R.remaining recording.old [] (answers_of bytes) → IsWithin R.remaining recording.old.rows (records_of bytes)
@@ -100,7 +100,7 @@ fn answer_all<R: Read + Drop, T: Threads + Sync, W: Write, N: Write, G: Watcher>
         → MatchResult result (AllAnswered (course (is_quiet answerer.old) run.now.options.now (checkpoints_of bytes)) bytes (W.contents out.old) (W.contents out.new))
         (EndsEarly (course (is_quiet answerer.old) run.now.options.now (checkpoints_of bytes)) bytes (W.contents out.old) (W.contents out.new)) }
 {
-    let mut last: Option<PreviousAnswer<Told>> = None;
+    let mut last: Option<PreviousAnswer<SnapshotAnswer>> = None;
     'checkpoints: for _turn in 0..u64::MAX {
         match read_on(run, recording) {
             Ok(checkpoint) => {

@@ -15,11 +15,11 @@ use tcc_print::{Options, RunContext, Status};
 use tcc_reads::ReadFault;
 use tcc_run::{Explained, Watcher, explain_large_snapshot};
 use tcc_txn::{LargeSnapshot, NoMemory};
-use tcc_watch::Verdict;
+use tcc_watch::WatchVerdict;
 
 /// What is said of a snapshot: a text, and how a run ends whose last text it is.
 #[derive(Drop)]
-pub(crate) struct Told {
+pub(crate) struct SnapshotAnswer {
     pub text: Vec<u8>,
     pub status: Status,
     /// The read faults that the text reports.
@@ -46,12 +46,12 @@ fn consistent(
     committed: usize,
     snapshot: &LargeSnapshot,
     has_told: bool,
-) -> Result<Told, NoMemory>
+) -> Result<SnapshotAnswer, NoMemory>
     requires { committed + 1 ≡ count (history snapshot.now) }
     ensures { IfOk result (λ told. (told_said told ≡ consistent_said options.now (history snapshot.now)) × (told.has_told ≡ has_told)
         × AreSaidFaults options.now (told_said told) told.faults.items) }
 {
-    Ok(Told {
+    Ok(SnapshotAnswer {
         text: consistent_line(alloc, options.json, committed, snapshot.sessions())?,
         status: consistent_status(committed, options.required),
         faults: Vec::new(alloc),
@@ -65,12 +65,12 @@ fn still(
     options: &Options,
     committed: usize,
     snapshot: &LargeSnapshot,
-) -> Result<Told, NoMemory>
+) -> Result<SnapshotAnswer, NoMemory>
     requires { committed + 1 ≡ count (history snapshot.now) }
     ensures { IfOk result (λ told. (told_said told ≡ still_said options.now (history snapshot.now)) × (told.has_told ≡ true)
         × AreSaidFaults options.now (told_said told) told.faults.items) }
 {
-    Ok(Told {
+    Ok(SnapshotAnswer {
         text: still_line(alloc, options.json, committed, snapshot.sessions())?,
         status: Status::Anomaly,
         faults: Vec::new(alloc),
@@ -83,7 +83,7 @@ fn explained<T: Threads + Sync, G: Watcher>(
     run: &RunContext<T, G>,
     snapshot: &LargeSnapshot,
     has_told: bool,
-) -> Result<Told, NoMemory>
+) -> Result<SnapshotAnswer, NoMemory>
     ensures { IfOk result (λ told. IsAsExplained run.now.options.now snapshot.now told × (told.has_told ≡ has_told)
         × AreSaidFaults run.now.options.now (told_said told) told.faults.items) }
 {
@@ -92,7 +92,7 @@ fn explained<T: Threads + Sync, G: Watcher>(
         status,
         faults,
     } = explain_large_snapshot(run, snapshot)?;
-    Ok(Told {
+    Ok(SnapshotAnswer {
         text,
         status,
         faults,
@@ -100,16 +100,16 @@ fn explained<T: Threads + Sync, G: Watcher>(
     })
 }
 
-impl Told {
+impl SnapshotAnswer {
     /// What is to be said of the snapshot, of which the verdict is known, and how many transactions are committed; where an anomaly was
     /// reported before or not. A consistent history has one line, and so has an anomaly that is still there. Else all of it is explained.
     pub(crate) fn of<T: Threads + Sync, G: Watcher>(
         run: &RunContext<T, G>,
-        verdict: Verdict,
+        verdict: WatchVerdict,
         committed: usize,
         snapshot: &LargeSnapshot,
         has_told: bool,
-    ) -> Result<Told, NoMemory>
+    ) -> Result<SnapshotAnswer, NoMemory>
         requires verdict { IsVerdict snapshot.now run.now.options.now.level verdict }
         requires counted { committed + 1 ≡ count (history snapshot.now) }
         ensures told { (checkpoints : List Sessions) → Knows run.now.options.now checkpoints snapshot.now has_told
@@ -117,17 +117,17 @@ impl Told {
         ensures faults { IfOk result (λ told. AreSaidFaults run.now.options.now (told_said told) told.faults.items) }
     {
         match verdict {
-            Verdict::Consistent => {
+            WatchVerdict::Consistent => {
                 consistent(run.alloc, run.options, committed, snapshot, has_told)
             }
-            Verdict::Anomaly => {
+            WatchVerdict::Anomaly => {
                 if has_told {
                     still(run.alloc, run.options, committed, snapshot)
                 } else {
                     explained(run, snapshot, true)
                 }
             }
-            Verdict::Unresolved => explained(run, snapshot, has_told),
+            WatchVerdict::Unresolved => explained(run, snapshot, has_told),
         }
     }
 
@@ -135,11 +135,11 @@ impl Told {
     /// anomaly was reported before or not. A consistent history has one line. Else all of it is explained.
     pub(crate) fn quietly<T: Threads + Sync, G: Watcher>(
         run: &RunContext<T, G>,
-        verdict: Verdict,
+        verdict: WatchVerdict,
         committed: usize,
         snapshot: &LargeSnapshot,
         was_told: bool,
-    ) -> Result<Told, NoMemory>
+    ) -> Result<SnapshotAnswer, NoMemory>
         requires verdict { IsVerdict snapshot.now run.now.options.now.level verdict }
         requires counted { committed + 1 ≡ count (history snapshot.now) }
         ensures told { (checkpoints : List Sessions) → Knows run.now.options.now checkpoints snapshot.now was_told
@@ -147,11 +147,11 @@ impl Told {
         ensures faults { IfOk result (λ told. AreSaidFaults run.now.options.now (told_said told) told.faults.items) }
     {
         match verdict {
-            Verdict::Consistent => {
+            WatchVerdict::Consistent => {
                 consistent(run.alloc, run.options, committed, snapshot, was_told)
             }
-            Verdict::Anomaly => explained(run, snapshot, true),
-            Verdict::Unresolved => explained(run, snapshot, was_told),
+            WatchVerdict::Anomaly => explained(run, snapshot, true),
+            WatchVerdict::Unresolved => explained(run, snapshot, was_told),
         }
     }
 
@@ -160,7 +160,7 @@ impl Told {
         run: &RunContext<T, G>,
         snapshot: &LargeSnapshot,
         was_told: bool,
-    ) -> Result<Told, NoMemory>
+    ) -> Result<SnapshotAnswer, NoMemory>
         ensures told { (checkpoints : List Sessions) → Knows run.now.options.now checkpoints snapshot.now was_told
             → IfOk result (IsTold (course true run.now.options.now checkpoints) snapshot.now) }
         ensures faults { IfOk result (λ told. AreSaidFaults run.now.options.now (told_said told) told.faults.items) }
@@ -172,7 +172,7 @@ impl Told {
                 let committed = committed_of(snapshot)?;
                 consistent(run.alloc, run.options, committed, snapshot, was_told)
             }
-            Status::Anomaly => Ok(Told {
+            Status::Anomaly => Ok(SnapshotAnswer {
                 has_told: true,
                 ..told
             }),

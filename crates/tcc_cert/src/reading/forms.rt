@@ -4,7 +4,7 @@ ghost use Rattle.tcc_cert.specs.Reading.{claim_sizes, count_of, cycle_sizes, der
 
 use super::decimals::number_of;
 use super::input::Input;
-use super::words::{Entry, Said, WordLine, next_line};
+use super::words::{LineEntry, Said, WordLine, next_line};
 use crate::ranges::{TextFormat, ranges_at};
 use crate::{CertFault, CertFaultKind};
 use std::alloc::Global;
@@ -122,7 +122,7 @@ impl WordLine for Step {
     }
 }
 
-impl Entry for Step {
+impl LineEntry for Step {
     ghost entry = { λ scale. words scale (step_line scale) };
 
     fn next<R: Read>(

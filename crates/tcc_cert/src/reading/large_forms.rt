@@ -6,7 +6,7 @@ ghost use Rattle.tcc_cert.specs.LargeReading.{large_order_sizes, least_of, no_wo
 use super::decimals::number_of;
 use super::forms::count_of;
 use super::input::Input;
-use super::words::{Entry, Said, WordLine, next_line};
+use super::words::{LineEntry, Said, WordLine, next_line};
 use crate::ranges::TextFormat;
 use crate::version_3::{V3_MAX_NUMBER, V3_MAX_RUNS, V3_MAX_SESSION, V3_MAX_SESSIONS};
 use crate::{CertFault, CertFaultKind, Run};
@@ -51,7 +51,7 @@ impl WordLine for Run {
     }
 }
 
-impl Entry for Run {
+impl LineEntry for Run {
     ghost entry = { λ scale. words scale run_line };
 
     fn next<R: Read>(

@@ -5,7 +5,7 @@ ghost use Rattle.tcc_cert.specs.Reading.{Position, link_at, repeated, with_walk}
 
 use super::forms::HeaderLine;
 use super::input::Input;
-use super::words::{Entry, next_line};
+use super::words::{LineEntry, next_line};
 use crate::ranges::TextFormat;
 use crate::{CertFault, CertFaultKind};
 use std::alloc::Global;
@@ -14,7 +14,7 @@ use tcc_graph::{Link, Step, Walk};
 use tcc_txn::ListOf;
 
 /// The next `count` entries.
-pub(crate) fn entries<E: Entry, R: Read>(
+pub(crate) fn entries<E: LineEntry, R: Read>(
     alloc: Global,
     input: &mut Input<R>,
     scale: TextFormat,
@@ -71,7 +71,7 @@ pub(crate) fn link<R: Read>(
     Ok(with_walk(head.link, walk))
 }
 
-impl Entry for Link {
+impl LineEntry for Link {
     ghost entry = { link_at };
 
     fn next<R: Read>(

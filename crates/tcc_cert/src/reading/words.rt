@@ -24,7 +24,7 @@ pub(crate) trait WordLine: Drop {
 }
 
 /// What one line says, or some that belong together.
-pub(crate) trait Entry: Drop {
+pub(crate) trait LineEntry: Drop {
     ghost use Rattle.std.specs.Prelude.{OnOk};
     ghost use Rattle.tcc_cert.specs.{declared.ranges.TextFormat.TextFormat, InputBytes.IsAt, Reading.Position, Reading.Reads, private.Inputs.AsBefore, private.Inputs.Gives, private.Onward.IsOnward};
 

@@ -10,11 +10,11 @@ use Rattle.tcc_watch.specs.private.Rows.{IsRouted}
 use Rattle.tcc_forget.specs.Cases.{IsMade, IsOutdated, IsRightBefore, Observes}
 use Rattle.tcc_forget.specs.Covers.{ComesOn, Cover, Covers, LeadsTo}
 use Rattle.tcc_forget.specs.Slots.{ArePlaced, AreReadings, AreSlots, AreWide, Coming, IsReadingOf, Reaches, after}
-use Rattle.tcc_forget.specs.declared.at.At.{At}
-use Rattle.tcc_forget.specs.declared.slots.Reading.{Reading}
+use Rattle.tcc_forget.specs.declared.at.SessionPlace.{SessionPlace}
+use Rattle.tcc_forget.specs.declared.slots.SlotReading.{SlotReading}
 
 -- a row goes to this place of its session
-abbrev pub GoesTo : At → List ℕ → Type 0
+abbrev pub GoesTo : SessionPlace → List ℕ → Type 0
 GoesTo at row = at.place ≤ slice_index row at.session
 
 -- Rows of the kept transactions while a transaction comes: they go to what led there before it, and to nothing that doesn't lead there
@@ -30,12 +30,12 @@ pub record AreBetween (h : History) (e : Entry) (numbers : List ℕ) (rows : Lis
       → Reaches h (row_of rows i) (slice_index numbers k) → slice_index numbers i ≡ slice_index numbers k
 
 -- a row that goes to `a` goes as far as another one now; others are as they were
-abbrev pub IsRaisedRow : At → List ℕ → List ℕ → List ℕ → Type 0
+abbrev pub IsRaisedRow : SessionPlace → List ℕ → List ℕ → List ℕ → Type 0
 IsRaisedRow a row old new =
     (GoesTo a old × ((session : ℕ) → slice_index new session ≡ max (slice_index row session) (slice_index old session)))
     ⊎ ((GoesTo a old → ⊥) × (new ≡ old))
 
-pub record AreRaised (a : At) (row : List ℕ) (old : List (List ℕ)) (new : List (List ℕ)) : Type 0 where
+pub record AreRaised (a : SessionPlace) (row : List ℕ) (old : List (List ℕ)) (new : List (List ℕ)) : Type 0 where
   pub long : length new ≡ length old
   pub wide : (i : ℕ) → length (row_of new i) ≡ length (row_of old i)
   pub each : (i : ℕ) → i < length old → IsRaisedRow a row (row_of old i) (row_of new i)
@@ -50,7 +50,7 @@ IsOutcome on old new More true = AreBetween on.history on.entry on.numbers new �
 IsOutcome on old new More false = HasCycle (causally (after on))
 
 -- two of the kept transactions, and a route from the one to the other
-pub record CanSettle (on : Coming) (rows : List (List ℕ)) (ats : List At) (b : ℕ) (a : ℕ) : Type 0 where
+pub record CanSettle (on : Coming) (rows : List (List ℕ)) (ats : List SessionPlace) (b : ℕ) (a : ℕ) : Type 0 where
   pub slots : AreSlots on.history on.numbers ats
   pub between : AreBetween on.history on.entry on.numbers rows
   pub wide : AreWide on.sessions rows
@@ -74,7 +74,7 @@ abbrev pub IsClockOf : History → Entry → List ℕ → Type 0
 IsClockOf h e clock = (u : ℕ) → u < count h → Reaches h clock u ↔ Observes h e u
 
 -- writers of a key that are listed, by their slots, and one of them that is read
-pub record CanLink (on : Coming) (rows : List (List ℕ)) (ats : List At) (clock : List ℕ) (listed : List ℕ) (a : ℕ) : Type 0 where
+pub record CanLink (on : Coming) (rows : List (List ℕ)) (ats : List SessionPlace) (clock : List ℕ) (listed : List ℕ) (a : ℕ) : Type 0 where
   pub slots : AreSlots on.history on.numbers ats
   pub between : AreBetween on.history on.entry on.numbers rows
   pub wide : AreWide on.sessions rows
@@ -84,7 +84,7 @@ pub record CanLink (on : Coming) (rows : List (List ℕ)) (ats : List At) (clock
   pub links : (b : ℕ) → Contains listed b → b ≢ a → Observes on.history on.entry (slice_index on.numbers b)
       → IsRouted (causally (after on)) (slice_index on.numbers b) (slice_index on.numbers a)
 
-pub record CanLinkOne (on : Coming) (rows : List (List ℕ)) (ats : List At) (clock : List ℕ) (b : ℕ) (a : ℕ) : Type 0 where
+pub record CanLinkOne (on : Coming) (rows : List (List ℕ)) (ats : List SessionPlace) (clock : List ℕ) (b : ℕ) (a : ℕ) : Type 0 where
   pub slots : AreSlots on.history on.numbers ats
   pub between : AreBetween on.history on.entry on.numbers rows
   pub wide : AreWide on.sessions rows
@@ -104,7 +104,7 @@ OrdersListed on rows listed a =
     → Reaches on.history (row_of rows a) (slice_index on.numbers b)
 
 -- writers of a key that are listed, to which a clock is compared
-pub record CanCompare (on : Coming) (ats : List At) (clock : List ℕ) (listed : List ℕ) : Type 0 where
+pub record CanCompare (on : Coming) (ats : List SessionPlace) (clock : List ℕ) (listed : List ℕ) : Type 0 where
   pub slots : AreSlots on.history on.numbers ats
   pub clock_of : IsClockOf on.history on.entry clock
   pub inside : (b : ℕ) → Contains listed b → b < length on.numbers
@@ -121,7 +121,7 @@ pub record Reads : Type 0 where
   pub a : ℕ
 
 -- the rows while it makes links, and its clock
-pub record AreLinking (on : Coming) (rows : List (List ℕ)) (ats : List At) (clock : List ℕ) : Type 0 where
+pub record AreLinking (on : Coming) (rows : List (List ℕ)) (ats : List SessionPlace) (clock : List ℕ) : Type 0 where
   pub delivered : IsDelivered on.history
   pub covers : Covers on.history on.live on.cover
   pub comes : ComesOn on.history on.live on.entry
@@ -130,12 +130,12 @@ pub record AreLinking (on : Coming) (rows : List (List ℕ)) (ats : List At) (cl
   pub wide : AreWide on.sessions rows
   pub clock_of : IsClockOf on.history on.entry clock
 
-pub record CanLinkAt (reads : Reads) (rows : List (List ℕ)) (ats : List At) (clock : List ℕ) (read : Reading) : Type 0 where
+pub record CanLinkAt (reads : Reads) (rows : List (List ℕ)) (ats : List SessionPlace) (clock : List ℕ) (read : SlotReading) : Type 0 where
   pub linking : AreLinking reads.on rows ats clock
   pub there : Contains reads.on.entry.reads (reads.key, reads.a)
   pub reading : IsReadingOf reads.on.cover reads.on.numbers reads.key reads.a read
 
-pub record CanLinkRead (on : Coming) (rows : List (List ℕ)) (ats : List At) (clock : List ℕ) (read : Reading) : Type 0 where
+pub record CanLinkRead (on : Coming) (rows : List (List ℕ)) (ats : List SessionPlace) (clock : List ℕ) (read : SlotReading) : Type 0 where
   pub linking : AreLinking on rows ats clock
   pub some : (key : List ℕ) × (a : ℕ) × Contains on.entry.reads (key, a) × IsReadingOf on.cover on.numbers key a read
 
@@ -153,12 +153,12 @@ IsReadDone reads rows =
     (IsOutdated reads.on.history reads.on.entry (reads.on.cover reads.key) reads.a → ⊥) × OrdersRead reads rows
 
 -- so it is whatever read this is
-abbrev pub IsDoneBy : Coming → List (List ℕ) → Reading → Type 0
+abbrev pub IsDoneBy : Coming → List (List ℕ) → SlotReading → Type 0
 IsDoneBy on rows read =
     (key : List ℕ) (a : ℕ) → Contains on.entry.reads (key, a) → IsReadingOf on.cover on.numbers key a read
     → IsReadDone (record { on = on; key = key; a = a }) rows
 
-pub record CanLinkReads (on : Coming) (rows : List (List ℕ)) (ats : List At) (clock : List ℕ) (reads : List Reading) : Type 0 where
+pub record CanLinkReads (on : Coming) (rows : List (List ℕ)) (ats : List SessionPlace) (clock : List ℕ) (reads : List SlotReading) : Type 0 where
   pub linking : AreLinking on rows ats clock
   pub readings : AreReadings on reads
 
@@ -166,5 +166,5 @@ abbrev pub AreReadsDone : Coming → List (List ℕ) → Type 0
 AreReadsDone on rows = (key : List ℕ) (a : ℕ) → Contains on.entry.reads (key, a) → IsReadDone (record { on = on; key = key; a = a }) rows
 
 -- the slots of what is right before a transaction
-abbrev pub parents_in : Option ℕ → List Reading → List ℕ
+abbrev pub parents_in : Option ℕ → List SlotReading → List ℕ
 parents_in last reads = option_to_list last ++ filter_map (λ read. read.source) reads

@@ -12,8 +12,8 @@ use Rattle.tcc_lanes.specs.Among.{HasCheaperIntoInit, IsAmong}
 use Rattle.tcc_judge.specs.Orders.{BreaksPair}
 use Rattle.tcc_judge.specs.Spanned.{IsBounded}
 use Rattle.tcc_rules.specs.Asked.{Asked, as_whole, at_each}
-use Rattle.tcc_judge.specs.declared.verdict.Rule.{Rule}
-use Rattle.tcc_judge.specs.declared.verdict.Rule.TheVariants.{Onward, Limits, Cheaper}
+use Rattle.tcc_judge.specs.declared.verdict.LargeRule.{LargeRule}
+use Rattle.tcc_judge.specs.declared.verdict.LargeRule.TheVariants.{Onward, Limits, Cheaper}
 
 -- these are committed transactions, ascending, and indices of keys. A cycle that costs less than a cost up to `most` is among the
 -- transactions, unless some transaction comes into `init` for less by one of the keys. Each derived link into `init` is by one of these
@@ -30,6 +30,6 @@ pub record HasAllBelow (j : Judged) (most : ℕ) (members : List ℕ) (key_indic
       → (k : ℕ) × Contains key_indices k × (key_at j.history k ≡ x)
 
 -- in turn, with an order
-abbrev pub onward_rules : Judged → List ℕ → ℕ → List (Asked Rule)
+abbrev pub onward_rules : Judged → List ℕ → ℕ → List (Asked LargeRule)
 onward_rules j order most =
     at_each Onward (BreaksPair j.history order) ∷ as_whole Limits (IsBounded j order most) ∷ as_whole Cheaper (NoneBelow j most) ∷ []

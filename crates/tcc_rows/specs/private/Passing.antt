@@ -10,7 +10,7 @@ use Rattle.tcc_rows.specs.declared.fault.RowFaultKind.{RowFaultKind}
 use Rattle.tcc_rows.specs.declared.fault.RowFaultKind.TheVariants as kind
 use Rattle.tcc_rows.specs.Line.{Line}
 use Rattle.tcc_rows.specs.Line as line
-use Rattle.tcc_rows.specs.declared.rows.progress.Progress.{Progress}
+use Rattle.tcc_rows.specs.declared.rows.progress.RowProgress.{RowProgress}
 use Rattle.tcc_txn.specs.declared.limits.Limits.{Limits}
 use Rattle.tcc_txn.specs.declared.op.Op.{Op}
 
@@ -32,12 +32,12 @@ NotesName limits names name (Ok done) new = HoldsNames limits (with_name name na
 NotesName limits names name (Err k) new = ((k ≡ kind.TooManyKeys) × (most_keys limits < length (with_name name names))) ⊎ (k ≡ kind.NoMemory)
 
 -- the line is lawful after the others and is one of them now, or it has this kind of fault
-abbrev pub PassesLine : {U : Type 0} → Limits → List Line → Line → Result U RowFaultKind → Progress → Type 0
+abbrev pub PassesLine : {U : Type 0} → Limits → List Line → Line → Result U RowFaultKind → RowProgress → Type 0
 PassesLine limits past last (Ok done) new = (fault_within limits past last ≡ None) × IsAfter limits (last ∷ past) new
 PassesLine limits past last (Err k) new = (fault_within limits past last ≡ Some k) ⊎ (k ≡ kind.NoMemory)
 
 -- the record is an operation, is lawful after the others and is one of them now, or it has this kind of fault
-abbrev pub PassesOperation : {U : Type 0} → Limits → List Line → Record → Result U RowFaultKind → Progress → Type 0
+abbrev pub PassesOperation : {U : Type 0} → Limits → List Line → Record → Result U RowFaultKind → RowProgress → Type 0
 PassesOperation limits past fields (Ok done) new =
     (session : List ℕ) × (op : Op) × (line_of fields ≡ Ok (line.Operation session op))
     × (fault_within limits past (line.Operation session op) ≡ None) × IsAfter limits (line.Operation session op ∷ past) new
@@ -45,6 +45,6 @@ PassesOperation limits past fields (Err k) new =
     (line_of fields ≡ Err k) ⊎ ((last : Line) × (line_of fields ≡ Ok last) × (fault_within limits past last ≡ Some k)) ⊎ (k ≡ kind.NoMemory)
 
 -- the line is lawful after the others and is one of them now, with what it finishes or the answer that it wants
-abbrev pub TakesLine : Limits → List Line → Line → Result (Option Item) RowFaultKind → Progress → Type 0
+abbrev pub TakesLine : Limits → List Line → Line → Result (Option Item) RowFaultKind → RowProgress → Type 0
 TakesLine limits past last (Ok given) new = (fault_within limits past last ≡ None) × (given ≡ item_of past last) × IsAfter limits (last ∷ past) new
 TakesLine limits past last (Err k) new = (fault_within limits past last ≡ Some k) ⊎ (k ≡ kind.NoMemory)

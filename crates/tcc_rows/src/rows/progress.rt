@@ -25,7 +25,7 @@ use tcc_txn::{KeyHints, Limits, Name, Op, SymbolTable, Txn};
 /// begun, and the sessions that have ended. Then come the keys so far, how many transactions were begun and how many seals
 /// there were. The last field has the numbers of the keys of the transaction that was finished last.
 #[derive(Drop)]
-pub(crate) struct Progress {
+pub(crate) struct RowProgress {
     limits: Limits,
     sessions: SeatTable,
     ended: BTreeSet<Name>,
@@ -109,11 +109,11 @@ fn least_begun(sessions: &[(Name, Option<Draft>)]) -> Option<Name>
     least
 }
 
-impl Progress {
-    pub(crate) fn new(alloc: Global, limits: Limits) -> Progress
+impl RowProgress {
+    pub(crate) fn new(alloc: Global, limits: Limits) -> RowProgress
         ensures { IsAfter limits [] result }
     {
-        Progress {
+        RowProgress {
             limits,
             sessions: SeatTable::new(alloc),
             ended: BTreeSet::new(alloc),

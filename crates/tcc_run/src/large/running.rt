@@ -10,7 +10,7 @@ ghost use Rattle.tcc_print.specs.{Saying.IsTold, Saying.SaysAt, private.Courses.
 use crate::large::certifying::write_certificate;
 use crate::large::outcome::LargeOutcome;
 use crate::large::slice_records::slice_text;
-use crate::large::watching::{Stage, Watcher};
+use crate::large::watching::{RunStage, Watcher};
 use std::alloc::Global;
 use std::io::{Read, Write};
 use std::thread::Threads;
@@ -33,7 +33,7 @@ pub(crate) fn decide<T: Threads + Sync, G: Watcher>(
     ensures told { IfOk result (IsTold (course run.now.options.now) snapshot.now) }
     ensures certifiable { IfOk result (IsCertifiable is_certified) }
 {
-    run.gate.begin(Stage::Deciding);
+    run.gate.begin(RunStage::Deciding);
     let decided = LargeOutcome::of(run, snapshot, is_certified);
     run.gate.end();
     decided
@@ -80,7 +80,7 @@ fn read_on<R: Read + Drop, G: Watcher>(
         → FailsBehind Large taken fault.row all) }
     ensures goes_on { OnOk result (fault_met recording.new.rows ≡ None) }
 {
-    watcher.begin(Stage::Reading);
+    watcher.begin(RunStage::Reading);
     let checkpoint = recording.advance(alloc);
     watcher.end();
     checkpoint
@@ -142,7 +142,7 @@ fn send_slice<T, W: Write, S: Write, N: Write, G: Watcher>(
     ensures { IsOutcome run.now.options.now.level snapshot.now outcome.now → outcome_links outcome.now ≡ Some links.now
         → SendsSlice run.now.options.now snapshot.now links.now result (W.contents out.old) (W.contents out.new) (S.contents file.old) (S.contents file.new) }
 {
-    run.gate.begin(Stage::Slicing);
+    run.gate.begin(RunStage::Slicing);
     let made = slice_text(run.alloc, snapshot, run.options.level, outcome, links);
     run.gate.end();
     match made {

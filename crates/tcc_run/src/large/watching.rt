@@ -4,7 +4,7 @@ use tcc_explain::{Gate, OpenGate};
 
 /// What a run is doing, as far as it may take long.
 #[derive(Clone, Copy, Debug, PartialEq, Eq)]
-pub enum Stage {
+pub enum RunStage {
     /// It reads records, to the next seal or to the end.
     Reading,
     /// It decides whether what was finished has a commit order, and finds a cycle where it has none.
@@ -16,14 +16,14 @@ pub enum Stage {
 /// Is called when each stage of a run begins and when it ends, and is the gate of its searches. Nothing is written during a stage. No
 /// promise depends on what it does.
 pub trait Watcher: Gate {
-    fn begin(&self, stage: Stage);
+    fn begin(&self, stage: RunStage);
 
     fn end(&self);
 }
 
 /// A watcher that does nothing.
 impl Watcher for OpenGate {
-    fn begin(&self, _stage: Stage) {}
+    fn begin(&self, _stage: RunStage) {}
 
     fn end(&self) {}
 }

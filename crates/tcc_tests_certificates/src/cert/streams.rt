@@ -73,12 +73,12 @@ impl Write for Breaking {
 
 /// An output that holds what is written until it is flushed.
 #[derive(Drop)]
-pub struct Holding {
+pub struct HeldOutput {
     pub held: Vec<u8>,
     pub taken: Vec<u8>,
 }
 
-impl Write for Holding {
+impl Write for HeldOutput {
     fn write(&mut self, bytes: &[u8]) -> io::Result<usize> {
         self.held.extend_from_slice(bytes)?;
         Ok(bytes.len())
@@ -92,8 +92,8 @@ impl Write for Holding {
 }
 
 /// One that holds nothing yet.
-pub fn nothing_held(alloc: Global) -> Holding {
-    Holding {
+pub fn nothing_held(alloc: Global) -> HeldOutput {
+    HeldOutput {
         held: Vec::new(alloc),
         taken: Vec::new(alloc),
     }

@@ -63,9 +63,9 @@ fn assert_verdict(
 }
 
 /// What comes after the word in the first line, the links, the table of lengths, the table of costs, and the verdict.
-type Row<'a> = (&'a str, &'a str, &'a str, &'a str, Wanted);
+type JudgedRow<'a> = (&'a str, &'a str, &'a str, &'a str, Wanted);
 
-fn assert_cycles(rt: &impl Abort, alloc: Global, records: &str, rows: &[Row]) {
+fn assert_cycles(rt: &impl Abort, alloc: Global, records: &str, rows: &[JudgedRow]) {
     for (header, links, near, far, wanted) in rows {
         let claim = [*links, "near\n", *near, "far\n", *far];
         assert_verdict(rt, alloc, records, header, &claim, *wanted);
@@ -90,7 +90,7 @@ fn a_stale_read(rt: HostRuntime) {
     let upward = "3 1 1\n3 1\n3\n";
     let dear_up = "3 1 1\n3 2\n3\n";
     let cheap_up = "3 1 1\n3 1\n2\n";
-    let rows: &[Row] = &[
+    let rows: &[JudgedRow] = &[
         ("1", links, near, far, None),
         ("1", smaller, few, less, Some((Sizes, 0, 0))),
         ("1", outside, near, far, Some((Sizes, 0, 0))),
@@ -135,12 +135,12 @@ fn wrong_links(rt: HostRuntime) {
         ("cycle 3 2 3\nS 3 1\nD 1 0 x 2 1\nS 1 2\n", (Sizes, 0, 0)),
     ] {
         let (rule, row, column) = wanted;
-        let rows: &[Row] = &[("1", links, near, far, Some((rule, row, column)))];
+        let rows: &[JudgedRow] = &[("1", links, near, far, Some((rule, row, column)))];
         assert_cycles(&rt, rt.alloc(), STALE, rows);
     }
     let dearer = "cycle 3 2 2\nS 0 1\nD 1 0 x 2 1\nS 1 2\n";
     let table = "2 1 1\n2 2 1\n2 2 2\n";
-    let rows: &[Row] = &[("1", dearer, table, table, Some((Links, 0, 0)))];
+    let rows: &[JudgedRow] = &[("1", dearer, table, table, Some((Links, 0, 0)))];
     assert_cycles(&rt, rt.alloc(), STALE, rows);
 }
 
@@ -151,14 +151,14 @@ fn a_session_of_three(rt: HostRuntime) {
     let links = "cycle 4 2 3\nS 0 1\nD 1 0 x 2 1\nS 1 2\n";
     let near = "3 1 1 1\n3 3 1 1\n3 3 3 1\n3 3 3 3\n";
     let far = "3 1 1 1\n2 3 1 1\n3 3 3 1\n3 3 3 3\n";
-    let rows: &[Row] = &[
+    let rows: &[JudgedRow] = &[
         ("1", links, near, far, None),
         ("2 causal", links, near, "3 1 1 1\n3 1 1\n3 1\n3\n", None),
     ];
     assert_cycles(&rt, rt.alloc(), LONGER, rows);
     let skipped = "3 1 1 1\n3 3 1 1\n3 3 3 1\n3 0 1 2\n";
     let leapt = "3 1 1 1\n2 3 1 1\n3 3 3 1\n2 0 1 2\n";
-    let rows: &[Row] = &[
+    let rows: &[JudgedRow] = &[
         ("1", links, skipped, far, Some((NearSteps, 3, 3))),
         ("1", links, near, leapt, Some((FarSteps, 3, 3))),
     ];
@@ -171,7 +171,7 @@ fn other_cycles(rt: HostRuntime) {
     let alloc = rt.alloc();
     let crossed = "cycle 3 2 2\nR 1 2 x\nR 2 1 y\n";
     let table = "2 1 1\n2 2 1\n2 1 2\n";
-    let rows: &[Row] = &[
+    let rows: &[JudgedRow] = &[
         ("1", crossed, table, table, None),
         ("2 causal", crossed, table, "2 1 1\n2 1\n2\n", None),
     ];
@@ -181,7 +181,7 @@ fn other_cycles(rt: HostRuntime) {
     let far = "4 1 1 1\n4 4 2 1\n4 2 4 1\n4 4 4 4\n";
     let low = "4 1 1 1\n4 4 1 1\n4 2 4 1\n4 4 4 4\n";
     let lowered = Some((FarSteps, 1, 1));
-    let rows: &[Row] = &[
+    let rows: &[JudgedRow] = &[
         ("1", torn, near, far, None),
         ("1", torn, near, low, lowered),
         ("2 causal", torn, near, "4 1 1 1\n4 2 1\n4 1\n4\n", None),

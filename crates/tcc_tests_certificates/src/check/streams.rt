@@ -106,11 +106,11 @@ fn cut_texts(rt: HostRuntime) {
 
 /// Gives a text, and then fails.
 #[derive(Drop)]
-struct Failing<'a> {
+struct CutShort<'a> {
     text: &'a [u8],
 }
 
-impl<'a> Read for Failing<'a> {
+impl<'a> Read for CutShort<'a> {
     fn read(&mut self, buf: &mut [u8]) -> io::Result<usize> {
         let count = buf.len().min(self.text.len());
         if count == 0 && !buf.is_empty() {
@@ -126,7 +126,7 @@ impl<'a> Read for Failing<'a> {
 fn assert_fails(rt: &impl Abort, alloc: Global, text: &[u8]) {
     let wanted = fault(line_begun(text), CertFaultKind::Read);
     assert_eq!(rt;
-        judged(rt, alloc, STALE, Failing { text }),
+        judged(rt, alloc, STALE, CutShort { text }),
         Err(wanted),
         "after {text:?}"
     );

@@ -9,9 +9,9 @@ use tcc_rows::snapshot_of;
 use tcc_txn::Name;
 
 /// Session, place, operation, key, value and kind of a fault.
-type Row = (&'static str, u32, u32, &'static str, u64, ReadFaultKind);
+type ReadRow = (&'static str, u32, u32, &'static str, u64, ReadFaultKind);
 
-fn fault(rt: &impl Abort, row: Row) -> ReadFault {
+fn fault(rt: &impl Abort, row: ReadRow) -> ReadFault {
     ReadFault {
         session: name(rt, row.0),
         place: row.1,
@@ -23,7 +23,7 @@ fn fault(rt: &impl Abort, row: Row) -> ReadFault {
 }
 
 /// The faults are these, in this order.
-fn assert_faults(rt: &impl Abort, faults: &[ReadFault], wanted: &[Row]) {
+fn assert_faults(rt: &impl Abort, faults: &[ReadFault], wanted: &[ReadRow]) {
     assert_eq!(rt; faults.len(), wanted.len());
     for (found, row) in faults.iter().zip(wanted) {
         assert_eq!(rt; *found, fault(rt, *row));
@@ -36,7 +36,7 @@ const ABORTED_AND_THIN_AIR: &str =
 #[test]
 fn faults_of_records(rt: HostRuntime) -> Result<(), Fail> {
     let alloc = rt.alloc();
-    let cases: [(&str, &[Row]); 5] = [
+    let cases: [(&str, &[ReadRow]); 5] = [
         (
             "a,begin\na,w,x,1\na,w,x,2\na,commit\nb,begin\nb,r,x,1\nb,commit\n",
             &[("b", 1, 1, "x", 1, Intermediate)],

@@ -8,7 +8,7 @@ use tcc_graph::Level;
 
 /// Steps of a search. Each has a cap, the answer that is expected, and the row from the start upward that it has to leave, where the
 /// definitions settle that.
-type Steps<'a> = &'a [(u64, Settled, Option<&'a [Option<u32>]>)];
+type CoreSteps<'a> = &'a [(u64, Settled, Option<&'a [Option<u32>]>)];
 
 /// Takes these steps of the search from a start.
 fn assert_steps(
@@ -17,7 +17,7 @@ fn assert_steps(
     records: &str,
     level: Level,
     start: u32,
-    steps: Steps<'_>,
+    steps: CoreSteps<'_>,
 ) {
     let prices = priced(rt, alloc, records, level);
     assert!(rt; start < prices.count());
@@ -77,7 +77,7 @@ fn steps_from_init(rt: HostRuntime) {
 #[test]
 fn steps_upward(rt: HostRuntime) {
     let alloc = rt.alloc();
-    let cases: [(&str, u32, Steps<'_>); 4] = [
+    let cases: [(&str, u32, CoreSteps<'_>); 4] = [
         (
             STALE_READ,
             1,

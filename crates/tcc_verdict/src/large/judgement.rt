@@ -6,7 +6,7 @@ ghost use Rattle.tcc_judge.specs.{Taken.AreTaken, declared.taken.TakenLinks.Take
 ghost use Rattle.tcc_verdict.specs.LargeChecks.{large_claim_of};
 
 use tcc_cert::LargeHead;
-use tcc_judge::Verdict;
+use tcc_judge::LargeVerdict;
 use tcc_rules::Judgement;
 
 /// What a certificate of version 3 claims, without the parts by which the claim is judged.
@@ -24,7 +24,10 @@ pub enum LargeJudgement {
     /// Of a certificate of version 1 or 2.
     Small(Judgement),
     /// Of one of version 3.
-    Large { claim: LargeClaim, verdict: Verdict },
+    Large {
+        claim: LargeClaim,
+        verdict: LargeVerdict,
+    },
 }
 
 /// What a certificate of version 3 claims whose links were taken.

@@ -6,7 +6,7 @@ ghost use Rattle.tcc_verdict.specs.LargeTexts.{large_accepted_text, large_check_
 use crate::{LargeClaim, LargeJudgement};
 use std::alloc::Global;
 use std::io::Write;
-use tcc_judge::Verdict;
+use tcc_judge::LargeVerdict;
 use tcc_print::printing::{print_memory, print_run_error, print_text};
 use tcc_print::status::verdict_status;
 use tcc_print::{RunError, Status, accepted_text, rejected_text, verdict_text};
@@ -41,8 +41,8 @@ fn judgement_text(alloc: Global, judgement: &LargeJudgement) -> Result<Vec<u8>, 
         LargeJudgement::Small(judgement) => verdict_text(alloc, judgement),
         LargeJudgement::Large { claim, verdict } => {
             match *verdict {
-                Verdict::Accepted => accepted(alloc, *claim),
-                Verdict::Rejected { rule, at } => rejected_text(alloc, rule.number(), at),
+                LargeVerdict::Accepted => accepted(alloc, *claim),
+                LargeVerdict::Rejected { rule, at } => rejected_text(alloc, rule.number(), at),
             }
         }
     }

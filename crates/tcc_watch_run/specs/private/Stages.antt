@@ -16,14 +16,14 @@ use Rattle.tcc_watch_run.specs.Watching.{IsAnomaly, IsWatched, WasAnomaly, check
 use Rattle.tcc_watch_run.specs.declared.answering.Answerer.{Answerer}
 use Rattle.tcc_watch_run.specs.declared.answering.Answerer.TheVariants as answerer
 use Rattle.tcc_watch_run.specs.declared.following.Follower.{Follower}
-use Rattle.tcc_watch_run.specs.declared.told.Told.{Told}
+use Rattle.tcc_watch_run.specs.declared.told.SnapshotAnswer.{SnapshotAnswer}
 
 -- what is said
-abbrev pub told_said : Told → Said
+abbrev pub told_said : SnapshotAnswer → Said
 told_said told = record { text = told.text.items; status = told.status; certificate = None }
 
 -- it is what explain --large says, with no certificate
-abbrev pub IsAsExplained : Options → Sessions → Told → Type 0
+abbrev pub IsAsExplained : Options → Sessions → SnapshotAnswer → Type 0
 IsAsExplained options s told = (explained : Said) × IsSaidWithLarge options s explained × (told_said told ≡ record explained { certificate = None })
 
 -- one of the snapshots before this one was an anomaly, or none was
@@ -37,12 +37,12 @@ KnowsNow options checkpoints s true = IsAnomaly options s ⊎ WasAnomaly options
 KnowsNow options checkpoints s false = (IsAnomaly options s → ⊥) × (WasAnomaly options checkpoints s → ⊥)
 
 -- whether an anomaly was reported so far
-abbrev pub was_told : Option (PreviousAnswer Told) → Bool
+abbrev pub was_told : Option (PreviousAnswer SnapshotAnswer) → Bool
 was_told None = false
 was_told (Some last) = last.outcome.has_told
 
 -- if something was finished since, it is known whether an anomaly was reported before the snapshot
-abbrev pub KnowsLast : Options → List Sessions → Sessions → Option (PreviousAnswer Told) → Type 0
+abbrev pub KnowsLast : Options → List Sessions → Sessions → Option (PreviousAnswer SnapshotAnswer) → Type 0
 KnowsLast options checkpoints s last =
     IfSome last (λ last. last.transactions ≢ transaction_count s) → Knows options checkpoints s (was_told last)
 
@@ -62,7 +62,7 @@ follower_of (answerer.Watch follower) = follower
 follower_of (answerer.Quiet quietly) = quietly.follower
 
 -- the course of a run that answers of these snapshots, quietly or not
-abbrev pub course : Bool → Options → List Sessions → Course Told
+abbrev pub course : Bool → Options → List Sessions → Course SnapshotAnswer
 course quiet options checkpoints = record {
   limits = Large;
   options = options;

@@ -2,7 +2,7 @@ use Rattle.std.proofs.Common.{ℕ, ◌≤◌, ◌++◌, ◌∙◌, List, length,
 use Rattle.std.specs.List.{filter_map}
 use Rattle.std.specs.Option.{option_to_list}
 use Rattle.std.proofs.lemmas.List.{take_all}
-use Rattle.tcc_forget.specs.declared.slots.Reading.{Reading}
+use Rattle.tcc_forget.specs.declared.slots.SlotReading.{SlotReading}
 use Rattle.tcc_forget.proofs.ParentLists.{append_none, sources_more}
 use Rattle.tcc_forget.proofs.slots.parents.Goals as goal
 
@@ -19,6 +19,6 @@ returns c =
     let reads = c.args.reads.now in
     let past : length reads ≤ c.loop-read.read-index = omega (arith, c.loop-read-test.false) in
     c.loop-read.invariant
-    ∙ ap (λ (z : List Reading). c.push_some.new.slots.items ++ filter_map (λ r. r.source) z) (take_all c.loop-read.read-index reads past)
+    ∙ ap (λ (z : List SlotReading). c.push_some.new.slots.items ++ filter_map (λ r. r.source) z) (take_all c.loop-read.read-index reads past)
     ∙ ap (λ (z : List ℕ). z ++ filter_map (λ r. r.source) reads)
     (c.in_ok-push_some.ensures ∙ ap (λ (z : List ℕ). z ++ option_to_list c.args.last) c.new-parents.ensures.items)

@@ -12,13 +12,13 @@ abbrev each_at : {X : Type 0} → (TextFormat → Position → Reads X) → Text
 each_at entry scale i = entry scale
 
 pub entries-init : goal.entries-init
-entries-init g c = record { works = refl; read = λ at before. (at, rw c.new-items.ensures.items (part-none (each_at g.E.Entry.entry c.args.scale) c.args.count at), before) }
+entries-init g c = record { works = refl; read = λ at before. (at, rw c.new-items.ensures.items (part-none (each_at g.E.LineEntry.entry c.args.scale) c.args.count at), before) }
 
 pub returns-in_err-one-clause-gives : goal.returns-in_err-one-clause-gives
 returns-in_err-one-clause-gives g c at before =
     let now = c.entries.invariant.read at before in
     let p = err_from_is_err_and c.from_residual.result c.from_residual.ensures.1 in
-    rw (p.1, p.2) (part-faults (each_at g.E.Entry.entry c.args.scale) c.args.count at c.entries.items.items c.entries.counter now.0 _ c.entries-test.true
+    rw (p.1, p.2) (part-faults (each_at g.E.LineEntry.entry c.args.scale) c.args.count at c.entries.items.items c.entries.counter now.0 _ c.entries-test.true
     (λ i. c.in_err-one.ensures.onward) now.1 (c.in_err-one.ensures.gives now.0 now.2))
 
 pub returns-in-Err-clause-gives : goal.returns-in-Err-clause-gives
@@ -26,9 +26,9 @@ returns-in-Err-clause-gives g c at before =
     let now = c.entries.invariant.read at before in
     let one = c.in_ok-one.ensures.gives now.0 now.2 in
     let more =
-    part-more (each_at g.E.Entry.entry c.args.scale) c.args.count at c.entries.items.items c.entries.counter now.0 one.0 c.in_ok-one.one c.entries-test.true
+    part-more (each_at g.E.LineEntry.entry c.args.scale) c.args.count at c.entries.items.items c.entries.counter now.0 one.0 c.in_ok-one.one c.entries-test.true
     (c.in_ok-one.ensures.onward now.0) now.1 one.1 in
-    rw (c.fault.ensures, one.2.number) (part-refused (each_at g.E.Entry.entry c.args.scale) c.args.count at _ _ one.0 NoMemory (λ i. c.in_ok-one.ensures.onward) more (inr refl))
+    rw (c.fault.ensures, one.2.number) (part-refused (each_at g.E.LineEntry.entry c.args.scale) c.args.count at _ _ one.0 NoMemory (λ i. c.in_ok-one.ensures.onward) more (inr refl))
 
 pub entries-preserved : goal.entries-preserved
 entries-preserved g c = record {
@@ -37,7 +37,7 @@ entries-preserved g c = record {
       let now = c.entries.invariant.read at before in
       let one = c.in_ok-one.ensures.gives now.0 now.2 in
       let more =
-      part-more (each_at g.E.Entry.entry c.args.scale) c.args.count at c.entries.items.items c.entries.counter now.0 one.0 c.in_ok-one.one c.entries-test.true
+      part-more (each_at g.E.LineEntry.entry c.args.scale) c.args.count at c.entries.items.items c.entries.counter now.0 one.0 c.in_ok-one.one c.entries-test.true
       (c.in_ok-one.ensures.onward now.0) now.1 one.1 in
       (one.0, rw c.in-Ok.ensures.items more, one.2);
 }
@@ -45,5 +45,5 @@ entries-preserved g c = record {
 pub returns-clause-gives : goal.returns-clause-gives
 returns-clause-gives g c at before =
     let now = c.entries.invariant.read at before in
-    let all = part-all (each_at g.E.Entry.entry c.args.scale) c.args.count at c.entries.items.items c.entries.counter now.0 c.entries-test.false now.1 in
+    let all = part-all (each_at g.E.LineEntry.entry c.args.scale) c.args.count at c.entries.items.items c.entries.counter now.0 c.entries-test.false now.1 in
     (now.0, rw c.new.ensures all, now.2)

@@ -10,5 +10,5 @@ invariant-entries g l =
     record {
       works : l.input.source.failed ≡ l.initial.input.source.failed;
       read : (at : Position) → IsAt g.R.Read.remaining l.initial.input at
-          → (now : Position) × IsPart (λ i. g.E.Entry.entry l.scale) l.count at l.items.items l.counter now × IsAt g.R.Read.remaining l.input now;
+          → (now : Position) × IsPart (λ i. g.E.LineEntry.entry l.scale) l.count at l.items.items l.counter now × IsAt g.R.Read.remaining l.input now;
     }

@@ -2,7 +2,7 @@ use Rattle.std.proofs.Common.{ℕ, Bool, true, ◌≡◌, ◌<◌, ◌++◌, ◌
 use Rattle.std.specs.Prelude.{All}
 use Rattle.std.proofs.lemmas.List.{with_items_is}
 use Rattle.tcc_watch.specs.private.Rows.{IsRowOver}
-use Rattle.tcc_forget.specs.declared.at.At.{At}
+use Rattle.tcc_forget.specs.declared.at.SessionPlace.{SessionPlace}
 use Rattle.tcc_forget.specs.Slots.{AreWide, SlotTables, tables_of}
 use Rattle.tcc_forget.specs.private.Linking.{AreReadsDone, CanLinkReads, IsOutcome, parents_in}
 use Rattle.tcc_forget.proofs.Arrivals.{arrived_as, can_link_reads, parents_below}
@@ -26,7 +26,7 @@ link_reads-requires g c =
     = subst (λ (z : List (List ℕ)). IsRowOver z parents c.args.at.session c.args.at.place clock) c.deref.ensures.value
     (subst (λ (z : List ℕ). IsRowOver c.deref.result.now z c.args.at.session c.args.at.place clock) same c.in_ok-clock.ensures.over) in
     subst (λ (z : List (List ℕ)). CanLinkReads g.on z c.deref-3.result.now clock c.args.reads.now) (sym c.deref_mut.ensures.value)
-    (subst (λ (z : List At). CanLinkReads g.on t.before z clock c.args.reads.now) (sym c.deref-3.ensures.value)
+    (subst (λ (z : List SessionPlace). CanLinkReads g.on t.before z clock c.args.reads.now) (sym c.deref-3.ensures.value)
     (can_link_reads g.on t c.args.at c.args.last c.args.reads.now c.requires clock over))
 
 pub row_over-requires-2-clause-inside : goal.row_over-requires-2-clause-inside

@@ -2,7 +2,7 @@ use Rattle.std.proofs.Common.{List, sym, subst}
 use Rattle.tcc_graph.specs.declared.level.Level.{Level}
 use Rattle.tcc_watch.specs.Verdicts.{IsVerdict}
 use Rattle.tcc_watch.specs.declared.lines.Line.{Line}
-use Rattle.tcc_watch.specs.declared.verdict.Verdict.TheVariants as verdict
+use Rattle.tcc_watch.specs.declared.verdict.WatchVerdict.TheVariants as verdict
 use Rattle.tcc_watch.specs.private.Arrivals.{NoneWaits}
 use Rattle.tcc_watch.proofs.ArrivalLemmas.{told_anomaly, told_consistent}
 use Rattle.tcc_watch.proofs.arrivals.Arrivals.verdict.Goals as goal

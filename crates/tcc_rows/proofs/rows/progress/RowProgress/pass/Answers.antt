@@ -1,6 +1,6 @@
 use Rattle.std.proofs.Common.{Some, ap, refl}
 use Rattle.tcc_rows.specs.declared.rows.Item.TheVariants as item
-use Rattle.tcc_rows.proofs.rows.progress.Progress.pass.Goals as goal
+use Rattle.tcc_rows.proofs.rows.progress.RowProgress.pass.Goals as goal
 
 pub returns-in-Ok-clause-passed : goal.returns-in-Ok-clause-passed
 returns-in-Ok-clause-passed c limits past is = rw c.in-Seal.is (let passed = c.in-Ok.ensures.passed limits past is in (passed.0, refl, passed.1))

@@ -1,7 +1,7 @@
 use Rattle.std.proofs.Common.{sym, refl, ◌∙◌, ap, Some}
 use Rattle.tcc_rows.proofs.SeatFacts.{seat-within}
 use Rattle.tcc_rows.proofs.SessionStateFacts.{after-leave}
-use Rattle.tcc_rows.proofs.rows.progress.Progress.leave.Goals as goal
+use Rattle.tcc_rows.proofs.rows.progress.RowProgress.leave.Goals as goal
 
 pub has_begun-requires : goal.has_begun-requires
 has_begun-requires c = seat-within c.args.self.now.sessions c.args.session c.in-Some.number c.in-Some.ensures

@@ -1,7 +1,7 @@
 use Rattle.std.proofs.Common.{sym, refl, ◌∙◌, ap, Some}
 use Rattle.tcc_rows.proofs.SeatFacts.{seat-within}
 use Rattle.tcc_rows.proofs.SessionStateFacts.{after-finish}
-use Rattle.tcc_rows.proofs.rows.progress.Progress.finish.Goals as goal
+use Rattle.tcc_rows.proofs.rows.progress.RowProgress.finish.Goals as goal
 
 pub end-requires : goal.end-requires
 end-requires c = seat-within c.args.self.now.sessions c.args.session c.in-Some.number c.in-Some.ensures

@@ -2,7 +2,7 @@ use Rattle.std.proofs.Common.{◌≤◌, ◌∙◌, List, ℕ, length, sym, ap, 
 use Rattle.tcc_watch.specs.private.Numbered.{number_in}
 use Rattle.tcc_watch.specs.private.Values.{ValueMap, noted, noted_at}
 use Rattle.tcc_watch.proofs.Numbers.{absent, present}
-use Rattle.tcc_watch.proofs.values.Values.get.Goals as goal
+use Rattle.tcc_watch.proofs.values.WrittenValues.get.Goals as goal
 
 pub returns-in-Some : goal.returns-in-Some
 returns-in-Some c =

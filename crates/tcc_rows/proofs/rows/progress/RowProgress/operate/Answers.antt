@@ -3,7 +3,7 @@ use Rattle.tcc_rows.specs.Past.{keys}
 use Rattle.tcc_txn.specs.Transactions.{op_key}
 use Rattle.tcc_rows.proofs.SeatFacts.{seat-within}
 use Rattle.tcc_rows.proofs.SessionStateFacts.{after-operation, noted-on, operation-refused, seated-added}
-use Rattle.tcc_rows.proofs.rows.progress.Progress.operate.Goals as goal
+use Rattle.tcc_rows.proofs.rows.progress.RowProgress.operate.Goals as goal
 
 pub operate-requires-clause-within : goal.operate-requires-clause-within
 operate-requires-clause-within c = seat-within c.args.self.now.sessions c.args.session c.in-Some.number c.in-Some.ensures

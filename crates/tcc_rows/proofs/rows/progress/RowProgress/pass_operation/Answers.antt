@@ -1,5 +1,5 @@
 use Rattle.tcc_rows.proofs.LineFacts.{four-fields}
-use Rattle.tcc_rows.proofs.rows.progress.Progress.pass_operation.Goals as goal
+use Rattle.tcc_rows.proofs.rows.progress.RowProgress.pass_operation.Goals as goal
 
 pub returns-clause-passed : goal.returns-clause-passed
 returns-clause-passed c limits past is =

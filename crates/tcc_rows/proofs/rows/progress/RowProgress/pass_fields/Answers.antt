@@ -1,6 +1,6 @@
 use Rattle.std.proofs.Common.{[], ◌∷◌, inl, sym}
 use Rattle.tcc_rows.proofs.LineFacts.{operation-line, operation-passes, refused-op, refused-session, refused-word}
-use Rattle.tcc_rows.proofs.rows.progress.Progress.pass_fields.Goals as goal
+use Rattle.tcc_rows.proofs.rows.progress.RowProgress.pass_fields.Goals as goal
 
 pub returns-in-Err-clause-passed : goal.returns-in-Err-clause-passed
 returns-in-Err-clause-passed c limits past is =

@@ -2,7 +2,7 @@ use Rattle.std.proofs.Common.{◌∙◌, ap, None}
 use Rattle.std.specs.Prelude.{fold}
 use Rattle.tcc_rows.specs.private.Passing.{lower}
 use Rattle.tcc_rows.proofs.LeastOpen.{fold-is-least}
-use Rattle.tcc_rows.proofs.rows.progress.Progress.unfinished.Goals as goal
+use Rattle.tcc_rows.proofs.rows.progress.RowProgress.unfinished.Goals as goal
 
 pub returns : goal.returns
 returns c limits past is =

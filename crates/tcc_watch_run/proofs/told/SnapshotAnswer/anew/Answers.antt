@@ -2,7 +2,7 @@
 use Rattle.std.proofs.Common.{refl, true}
 use Rattle.std.proofs.lemmas.Result.{IfOk-weaker}
 use Rattle.tcc_watch_run.proofs.Quietly.{anomaly_by, anomaly_quietly, consistent_by, consistent_quietly, unresolved_by, unresolved_quietly}
-use Rattle.tcc_watch_run.proofs.told.Told.anew.Goals as goal
+use Rattle.tcc_watch_run.proofs.told.SnapshotAnswer.anew.Goals as goal
 
 pub returns-in_ok-committed-in-Success-clause-told : goal.returns-in_ok-committed-in-Success-clause-told
 returns-in_ok-committed-in-Success-clause-told g c checkpoints knows =

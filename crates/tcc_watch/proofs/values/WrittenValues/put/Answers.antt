@@ -2,7 +2,7 @@ use Rattle.std.proofs.Common.{List, ℕ, sym, subst}
 use Rattle.tcc_txn.specs.Symbols.{IsNumber, with_symbol}
 use Rattle.tcc_watch.specs.private.Values.{AreValuesOf, Notes, ValueMap}
 use Rattle.tcc_watch.proofs.ByNumber.{noted_value, values_kept, values_more}
-use Rattle.tcc_watch.proofs.values.Values.put.Goals as goal
+use Rattle.tcc_watch.proofs.values.WrittenValues.put.Goals as goal
 
 pub invariant_of-self-in_err-note_at : goal.invariant_of-self-in_err-note_at
 invariant_of-self-in_err-note_at c =
