@@ -96,8 +96,6 @@ def full_line(asked: Dict[str, Optional[str]], status: int, members: Dict[str, o
 
 def refused(asked: Dict[str, Optional[str]]) -> Optional[str]:
     """What of the options doesn't go together, by the texts of the program, or None."""
-    if "--slice" in asked and "--large" not in asked:
-        return "'--slice' needs '--large'"
     if "--quiet" in asked and "--json" in asked:
         return "'--quiet' can't be used with '--json', which has the order in its one line"
     if "--full" in asked and {"--quiet", "--certificate", "--slice"} & set(asked):
@@ -154,8 +152,8 @@ def of_order(asked: Dict[str, Optional[str]], history: History, order: List[str]
 
 
 def wanted(asked: Dict[str, Optional[str]], history: History) -> Wanted:
-    """What a run with these options is to do. The rows of histories of 65 sessions are a fault without --large."""
-    if history.row and ("--large" not in asked or history.sessions < 65):
+    """What a run with these options is to do. The rows of histories of 65 sessions are a fault without --large or --slice."""
+    if history.row and (not {"--large", "--slice"} & set(asked) or history.sessions < 65):
         return of_row(asked, history.row)
     if history.read:
         return of_read(asked, history)
@@ -177,7 +175,7 @@ def unlike(asked: Dict[str, Optional[str]], folder: pathlib.Path, name: str, tex
 
 def unaccepted(tcc: List[str], asked: Dict[str, Optional[str]], folder: pathlib.Path, history: History) -> Optional[str]:
     """What is wrong with the certificate of an answer, or None."""
-    large = ["--large"] if "--large" in asked else []
+    large = ["--large"] if {"--large", "--slice"} & set(asked) else []
     certificate = left(folder, "certificate") or b""
     first = "tcc-certificate %d %s\n" % (3 if history.sessions == 65 else 2, asked.get("--level", "causal"))
     if not certificate.startswith(first.encode()):

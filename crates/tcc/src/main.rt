@@ -351,6 +351,8 @@ fn main(rt: HostRuntime) -> ExitCode {
                     slice: slice.as_deref(),
                 };
                 let history = history.as_deref();
+                // (a slice is cut by the run for large histories)
+                let large = large || paths.slice.is_some();
                 let manner = Manner { large, quiet };
                 explain_records(&rt, &rt, options, history, paths, manner, &mut out)
             }

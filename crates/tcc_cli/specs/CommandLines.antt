@@ -243,10 +243,10 @@ AsksBy (Some entered) (Check files) = (entered.0 ≡ codes "check") × AsksFiles
 abbrev pub Asks : App → List Text → Request → Type 0
 Asks app words request = AsksBy (subcommand_of app words) request
 
--- a slice is asked for only of a large history; JSON keeps its orders; and what says all goes with no file
+-- JSON keeps its orders, and what says all goes with no file
 abbrev pub GoesTogether : Request → Type 0
 GoesTogether (Explain options history certificate large slice quiet full) =
-    (large ≡ false → slice ≡ None) × (quiet ≡ true → options.json ≡ false)
+    (quiet ≡ true → options.json ≡ false)
     × (full ≡ true → (quiet ≡ false) × (certificate ≡ None) × (slice ≡ None))
 GoesTogether (Survey level json large history) = Unit {0}
 GoesTogether (Watch level json history) = Unit {0}

@@ -32,7 +32,7 @@ pub enum Request {
         certificate: Option<String>,
         /// Whether records are taken up to the large limits.
         large: bool,
-        /// The path of the file for the slice of the last anomaly, if it is wanted of a large history.
+        /// The path of the file for the slice of the last anomaly, if it is wanted. Then the history may be large.
         slice: Option<String>,
         /// Whether the lines of orders are left out; then no JSON is wanted.
         quiet: bool,
@@ -188,7 +188,7 @@ fn with_large<'a>(alloc: Global, explain: Command<'a>) -> Result<Command<'a>, Al
     let slice = path_option(
         alloc,
         "slice",
-        "With --large, writes a small history that has the last anomaly to this file",
+        "Writes a small history that has the last anomaly to this file",
     );
     explain.arg(large)?.arg(slice)
 }
@@ -575,7 +575,6 @@ fn refusal_of(request: &Request) -> Option<&'static str>
     let Request::Explain {
         options,
         certificate,
-        large,
         slice,
         quiet,
         full,
@@ -584,9 +583,6 @@ fn refusal_of(request: &Request) -> Option<&'static str>
     else {
         return None;
     };
-    if !*large && slice.is_some() {
-        return Some("'--slice' needs '--large'");
-    }
     if *quiet && options.json {
         return Some("'--quiet' can't be used with '--json', which has the order in its one line");
     }

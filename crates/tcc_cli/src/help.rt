@@ -32,7 +32,8 @@ What to mend, and why a file failed, is said on standard error.
 
 With '--large' a history has up to 16777215 transactions, 65535 sessions and 16777216 keys, in place of
 4095, 64 and 1024. Past those of transactions and sessions a certificate is one of version 3, for
-'tcc check --large'. '--slice PATH' writes a small history that has an anomaly of this one.
+'tcc check --large'. '--slice PATH' writes a small history that has an anomaly of this one, and takes
+the same limits.
 
 Example: a session writes x, and its next transaction reads the initial x.
   $ printf 'a,begin\\na,w,x,1\\na,commit\\na,begin\\na,r,x,0\\na,commit\\n' | tcc explain
