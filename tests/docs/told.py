@@ -52,7 +52,6 @@ HELD = {
         "{LARGE_SESSIONS} and {LARGE_TRANSACTIONS}",),
     "docs/RECORDING.md": (
         "A history has at most {MAX_SESSIONS} sessions, or {LARGE_SESSIONS} with `--large`",
-        "that is at {MAX_TRANSACTIONS} transactions, aborted ones counted",
         "There are at most {MAX_SESSIONS}, each name once", "`TooManySessions` that {MAX_SESSIONS} are open"),
     "docs/FORMATS.md": (
         "names: 1 to {MAX_NAME_BYTES} bytes", "but a {MAX_SEALS+1}th is TooManySeals"),

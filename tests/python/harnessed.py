@@ -251,15 +251,14 @@ def rounds(folder: pathlib.Path, tcc: List[str]) -> Iterator[Outcome]:
 
 
 def documented() -> Dict[str, object]:
-    """What the harness's example in RECORDING defines."""
-    text = next(one for one in re.findall("```python\n(.*?)```", (TOP / "docs/RECORDING.md").read_text(), re.DOTALL) if "class Mine(" in one)
+    """What the example of the harness defines."""
     names: Dict[str, object] = {}
-    exec(text, names)
+    exec((TOP / "examples/own_store.py").read_text(), names)
     return names
 
 
 def processes(folder: pathlib.Path, tcc: List[str]) -> Iterator[Outcome]:
-    """Clients of several processes at the store that RECORDING shows: one history, one count of what lags, one watch, one line of time."""
+    """Clients of several processes at the store of the example: one history, one count of what lags, one watch, one line of time."""
     from replicas import Replicas, served
     from tcc import BrokenPromise, Consistent
     from tcc.harness import Goal, Keys, Plan, WriteThenRead, at, play

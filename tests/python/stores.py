@@ -1,4 +1,4 @@
-"""The calls that RECORDING shows, at an etcd, a Redis and SQLite; and rounds at an etcd that is stopped and killed.
+"""The calls of `examples/one_request.py`, at an etcd, a Redis and SQLite; and rounds at an etcd that is stopped and killed.
 
 Where etcd or redis-server isn't on the path, what needs it is passed over, which is said. Both are started on the loopback, in a
 folder of the test's own.
@@ -8,7 +8,6 @@ import contextlib
 import json
 import os
 import pathlib
-import re
 import shutil
 import signal
 import socket
@@ -33,13 +32,10 @@ WORK_SECONDS, LEAST_UNKNOWN, LONGEST_SECONDS, START_SECONDS, TURNS = 5.0, 4, 120
 
 
 def shown(name: str) -> Any:
-    """A function that RECORDING shows."""
-    for block in re.findall("```python\n(.*?)```", (TOP / "docs/RECORDING.md").read_text(), re.DOTALL):
-        if "def %s(" % name in block:
-            names: dict = {}
-            exec(block, names)
-            return names[name]
-    raise KeyError(name)
+    """A function of the example."""
+    names: dict = {}
+    exec((TOP / "examples/one_request.py").read_text(), names)
+    return names[name]
 
 
 def free_port() -> int:

@@ -9,7 +9,6 @@ import contextlib
 import importlib.util
 import io
 import pathlib
-import re
 import subprocess
 import sys
 import tempfile
@@ -104,10 +103,10 @@ class Connection:
         self.pending.clear()
 
 
-def example(document: str) -> dict:
-    """The names that the Python of a document defines; what waits there doesn't wait here."""
+def example() -> dict:
+    """The names that the client to copy defines; what waits there doesn't wait here."""
     names: dict = {}
-    exec(re.search("```python\n(.*?)```", (TOP / document).read_text(), re.DOTALL).group(1), names)
+    exec((TOP / "examples/client.py").read_text(), names)
     names["time"] = types.SimpleNamespace(monotonic=time.monotonic, sleep=lambda _: None)
     return names
 
@@ -117,8 +116,8 @@ Done = List[Tuple[str, List[Tuple[str, str, int]], str]]
 
 
 def documented(cuts: Dict[int, str], keeps: bool) -> Tuple[Server, Done]:
-    """What the client of RECORDING notes, and after it another one that reads all."""
-    names, done = example("docs/RECORDING.md"), []
+    """What the client to copy notes, and after it another one that reads all."""
+    names, done = example(), []
     server, until = Server(cuts, names["Refused"]), time.monotonic() + SECONDS
     names["client"](1, server.connect, WORK, done, until, keeps)
     server.cuts = {}
@@ -212,7 +211,7 @@ def untrue(server: Server, done: Done, keeps: bool) -> Iterator[str]:
 def answer(done: Done, tcc: List[str]) -> int:
     """The status of `tcc explain` for what was noted, once it is settled."""
     out = io.StringIO()
-    example("docs/RECORDING.md")["write_records"](done, out)
+    example()["write_records"](done, out)
     asked = subprocess.run([*tcc, "explain", "--require", "1"], input=out.getvalue().encode(), capture_output=True,
                            timeout=SECONDS, check=False)
     return asked.returncode
@@ -234,8 +233,8 @@ def cut_everywhere(client, tcc: List[str]) -> Iterator[str]:
 
 
 def lost(keeps: bool) -> Done:
-    """What RECORDING's client notes where all commits are lost while it works."""
-    names, done = example("docs/RECORDING.md"), []
+    """What the client to copy notes where all commits are lost while it works."""
+    names, done = example(), []
     server = Server({6: "before"}, names["Refused"])  # a connection and two transactions of two calls are before it
 
     def connect():
@@ -249,8 +248,8 @@ def lost(keeps: bool) -> Done:
 
 
 def as_shown() -> Iterator[Outcome]:
-    """The clients that the documents show: what they write is what they saw, with each way in which a commit may end."""
-    names, done, out = example("docs/RECORDING.md"), [], io.StringIO()
+    """The client to copy: what it writes is what it saw, with each way in which a commit may end."""
+    names, done, out = example(), [], io.StringIO()
     # The second transaction is refused in its COMMIT, the third breaks before it, the fourth breaks in it and happened.
     server = Server({6: "refused", 8: "before", 12: "behind"}, names["Refused"])
     work = [([], ["x"]), (["x"], ["y"]), (["x"], ["z"]), ([], ["x", "z"]), (["z"], [])]
@@ -264,7 +263,7 @@ def as_shown() -> Iterator[Outcome]:
               "c1.1,begin", "c1.1,w,z,193", "c1.1,abort", "c1.2,begin", "c1.2,w,x,257", "c1.2,w,z,321", "c1.2,unknown",
               "c1.3,begin", "c1.3,r,z,321", "c1.3,commit", "c2.1,begin", "c2.1,r,x,257", "c2.1,r,y,0", "c2.1,r,z,321", "c2.1,commit",
               "c3.1,begin", "c3.1,w,w,67", "c3.1,unknown"]
-    yield "client of RECORDING", None if out.getvalue().split() == wanted else "wrote %s" % out.getvalue().split()
+    yield "client to copy", None if out.getvalue().split() == wanted else "wrote %s" % out.getvalue().split()
 
 
 def annotated() -> Iterator[Outcome]:
@@ -303,8 +302,8 @@ def outcomes(tcc: List[str]) -> Iterator[Outcome]:
     yield from as_shown()
     yield from refused_by_a_cluster()
     yield from annotated()
-    for name, client in (("RECORDING", documented), ("recorders", recorded)):
-        yield "client of %s, cut at every call" % name, next(cut_everywhere(client, tcc), None)
+    for name, client in (("client to copy", documented), ("clients of recorders", recorded)):
+        yield "%s, cut at every call" % name, next(cut_everywhere(client, tcc), None)
     for keeps, wanted in ((False, 0), (True, 1)):
         status = answer(lost(keeps), tcc)
         name = "commits that are lost, sessions %s" % ("kept" if keeps else "new")

@@ -20,8 +20,8 @@ A case is a JSON object:
     written    files of that folder after the run: names, and parts
     runs       several runs, each with fields of its own over those of the case
 
-After the cases, the help of each script has to show an example. The clients in Python that README and RECORDING show have to write
-what they saw, also where their connections are cut at every call (`clients.py`). Each way of reading a history has to give the same
+After the cases, the help of each script has to show an example. The client to copy, `examples/client.py`, and that of README have to write
+what they saw, also where connections are cut at every call (`clients.py`). Each way of reading a history has to give the same
 records, and a script that is interrupted to say what it has. The lines of RECORDING for a large history have to end with its status
 (`scripts.py`). The pages of report.py have to be whole, and right in a browser where Chromium is there (`pages.py`). The demo of Redis
 has to show the answers of `tcc watch` while clients work, which needs no Redis (`watched.py`). The demos of

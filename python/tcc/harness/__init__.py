@@ -1,6 +1,6 @@
 """A harness for a store of one's own: clients, workloads, troubles, several recorder processes, and what lagged.
 
-A store is a class that connects to a node, and a connection one that reads and writes; docs/RECORDING.md shows one of 40 lines.
+A store is a class that connects to a node, and a connection one that reads and writes; examples/own_store.py shows one of 40 lines.
 
     from tcc.harness import Goal, Keys, Plan, WriteThenRead, kill, pause, play
 
