@@ -24,7 +24,7 @@ from limits import filled, form_of, limits  # noqa: E402
 
 README, GUIDE, MODEL, PAGE = TOP / "README.md", TOP / "docs/GUIDE.md", TOP / "docs/MODEL.md", TOP / "docs/tcc.1"
 LIMITS_OF_PACKAGE = TOP / "python/tcc/common/limits.py"
-MOST_WORDS = 880
+MOST_WORDS = 886
 VARIANT = re.compile(r"((?: *///.*\n)+) *(\w+),\n")
 QUOTED = re.compile(r"`([^`]+)`")
 COMPARED = re.compile(r"((?:^-- .*\n)+)abbrev pub (\w+_(?:cmp|kind)) :", re.MULTILINE)
