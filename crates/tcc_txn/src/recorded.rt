@@ -1,5 +1,5 @@
 //! Transactions as a snapshot holds them.
-ghost use Rattle.std.specs.Prelude.{◌≡◌, ◌≤◌, None, IfOk, OnOk, length, map, slice_get};
+ghost use Rattle.std.specs.Prelude.{◌≡◌, ◌≤◌, [], None, IfOk, OnErr, OnOk, length, map, slice_get, vec_capacity};
 ghost use Rattle.tcc_txn.specs.{Transactions.txn_fault, private.Packing.AreNamed, private.Packing.op_in, declared.limits.TheConstants.MAX_OPERATIONS};
 
 use crate::packed::PackedOp;
@@ -38,16 +38,27 @@ impl<'a> Model for Recorded<'a> {
     ghost invariant = { λ r. IsLawfulForm r.form };
 }
 
-/// Puts packed operations in place of those in a vector.
-fn fill_packed(keys: &[Name], packed: &[PackedOp], ops: &mut Vec<Op>) -> Result<(), NoMemory>
-    requires { AreNamed keys.now packed.now }
-    ensures { OnOk result (ops.new.items ≡ map (op_in keys.now) packed.now) }
+/// Empties a vector and makes room for this many operations. Where memory runs out, it stays as it was.
+fn clear_for(ops: &mut Vec<Op>, count: usize) -> Result<(), NoMemory>
+    ensures empty { OnOk result (ops.new.items ≡ []) }
+    ensures room { OnOk result (count ≤ vec_capacity ops.new) }
+    ensures kept { OnErr result (ops.new.items ≡ ops.old.items) }
 {
+    ops.reserve(count.saturating_sub(ops.len()))?;
     ops.clear();
-    for op in packed {
-        ops.push(op.named(keys))?;
-    }
     Ok(())
+}
+
+/// Puts packed operations into an empty vector that has room for them.
+fn put_packed(keys: &[Name], packed: &[PackedOp], ops: &mut Vec<Op>)
+    requires named { AreNamed keys.now packed.now }
+    requires empty { ops.old.items ≡ [] }
+    requires room { length packed.now ≤ vec_capacity ops.old }
+    ensures { ops.new.items ≡ map (op_in keys.now) packed.now }
+{
+    for op in packed {
+        ops.push_reserved(op.named(keys));
+    }
 }
 
 impl<'a> Recorded<'a> {
@@ -109,15 +120,16 @@ impl<'a> Recorded<'a> {
         }
     }
 
-    /// Puts its operations in place of those in a vector.
+    /// Puts its operations in place of those in a vector. Where memory runs out, the vector stays as it was.
     pub fn fill(&self, ops: &mut Vec<Op>) -> Result<(), NoMemory>
         ensures value { OnOk result (ops.new.items ≡ self.now.ops) }
+        ensures kept { OnErr result (ops.new.items ≡ ops.old.items) }
         ensures few { length self.now.ops ≤ MAX_OPERATIONS }
         ensures lawful { txn_fault self.now.ops ≡ None }
     {
         match &self.form {
             TxnStorage::Plain(txn) => {
-                ops.clear();
+                clear_for(ops, txn.ops().len())?;
                 ops.extend_from_slice(txn.ops())?;
                 Ok(())
             }
@@ -125,7 +137,11 @@ impl<'a> Recorded<'a> {
                 keys,
                 ops: packed,
                 ..
-            } => fill_packed(keys, packed, ops),
+            } => {
+                clear_for(ops, packed.len())?;
+                put_packed(keys, packed, ops);
+                Ok(())
+            }
         }
     }
 
@@ -140,8 +156,8 @@ impl<'a> Recorded<'a> {
                 ops: packed,
                 committed,
             } => {
-                let mut ops = Vec::new(alloc);
-                fill_packed(keys, packed, &mut ops)?;
+                let mut ops = Vec::with_capacity(alloc, packed.len())?;
+                put_packed(keys, packed, &mut ops);
                 Ok(Txn::new(ops, *committed).unwrap())
             }
         }

@@ -14,7 +14,7 @@ loop-a-preserved c =
     let old = c.loop-a.places.items in
     let same : length new ≡ length old = rw c.deref_mut.ensures.value at c.links_into.ensures.same in
     let long : c.loop-a.places.len ≡ length old = search rules in
-    let pushed : c.push.new.self ≡ c.loop-a.kept ++ c.in_ok-into.into ∷ [] = rw c.as_slice.ensures at c.in_ok-push.ensures in
+    let pushed : c.push.new.self ≡ c.loop-a.kept ++ c.in_ok-into.into ∷ [] = rw c.as_slice.ensures at c.in_ok-push.ensures.pushed in
     rw (take_at new _ c.loop-a.places.len (same ∙ sym long), pushed) (
       same ∙ c.loop-a.invariant.0,
       below_more c.args.graph.now c.loop-a.a c.loop-a.kept c.in_ok-into.into c.loop-a.invariant.1 c.in_ok-into.ensures.kept,

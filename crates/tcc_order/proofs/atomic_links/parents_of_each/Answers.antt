@@ -30,7 +30,7 @@ loop-c-preserved c =
     let old = c.loop-c.places.items in
     let same : length new ≡ length old = rw c.deref_mut.ensures.value at c.once.ensures.same in
     let long : c.loop-c.places.len ≡ length old = search rules in
-    let pushed : c.push.new.self ≡ c.loop-c.rows ++ c.in_ok-row.row ∷ [] = rw c.as_slice.ensures at c.in_ok-push.ensures in
+    let pushed : c.push.new.self ≡ c.loop-c.rows ++ c.in_ok-row.row ∷ [] = rw c.as_slice.ensures at c.in_ok-push.ensures.pushed in
     let listed : (b : ℕ) → Contains c.in_ok-row.row b ↔ Contains (parents h c.loop-c.c) b
     = rw (c.deref.ensures.value, c.in_ok-find_parents.ensures.found) at c.in_ok-row.ensures.listed in
     let has : HasParents h c.loop-c.c c.in_ok-row.row = record { listed = listed; sources = c.in_ok-find_parents.ensures.sources } in

@@ -64,7 +64,7 @@ loop-a-preserved-then-not-has_more c =
     let more = c.loop-a.more in
     let a = c.loop-a.a in
     let inv = c.loop-a.invariant in
-    let pushed : c.push.new.self ≡ more ++ row_of old a ∷ [] = rw c.row-before.ensures at c.in_ok-push.ensures in
+    let pushed : c.push.new.self ≡ more ++ row_of old a ∷ [] = rw c.row-before.ensures at c.in_ok-push.ensures.pushed in
     rw (pushed, renewed_same more old a inv.2 (here begun).1) (
       inv.0,
       c.begin_session.ensures.same ∙ inv.1,
@@ -99,7 +99,7 @@ loop-a-preserved c =
     let keeps : KeepsNews need clock run after (row_of kept a) new (length need) = rw (c.get.ensures, was) at c.in_ok-keep.ensures.kept in
     let reaches : AreLatestOf h (IsBefore h a) from clock = c.requires.clocks.each a low low in
     let needs : AreLatestPast h (IsOverwritten h (IsReadsPair h a) a) from clock need = c.needed.ensures in
-    let pushed : c.push-in-loop-a.new.self ≡ c.loop-a.more ++ new ∷ [] = rw c.deref.ensures.value at c.in_ok-push-2.ensures in
+    let pushed : c.push-in-loop-a.new.self ≡ c.loop-a.more ++ new ∷ [] = rw c.deref.ensures.value at c.in_ok-push-2.ensures.pushed in
     rw (pushed, renewed_set c.loop-a.more old a inv.2 inside new) (
       needs.wide,
       c.in_ok-keep.ensures.same ∙ (c.begin_session.ensures.same ∙ inv.1),

@@ -17,7 +17,7 @@ loop-number-preserved c =
     let first : c.refill.new.row.items ≡ row_of kept n = c.in_ok-refill.ensures ∙ c.row-before.ensures in
     let both : row ≡ c.refill.new.row.items ++ c.row-more.result.now = search rules in
     let is : row ≡ row_of kept n ++ row_of part n = rw (first, c.row-more.ensures) at both in
-    let pushed : c.push.new.self ≡ c.loop-number.joined ++ row ∷ [] = rw c.deref.ensures.value at c.in_ok-push.ensures in
+    let pushed : c.push.new.self ≡ c.loop-number.joined ++ row ∷ [] = rw c.deref.ensures.value at c.in_ok-push.ensures.pushed in
     rw pushed (omega (arith, length_push c.loop-number.joined row, inv.0), joined_more kept part c.loop-number.joined n row inv.0 is inv.1)
 
 pub returns-clause-joined : goal.returns-clause-joined
