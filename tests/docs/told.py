@@ -47,9 +47,6 @@ HELD = {
     "docs/GUIDE.md": (
         "more than {MAX_SESSIONS} sessions or {MAX_TRANSACTIONS} transactions",
         "search for a small certificate, 1 to {MAX_WORKERS}."),
-    "recipes/README.md": (
-        "takes {MAX_SESSIONS} sessions and {MAX_TRANSACTIONS} transactions, aborted ones counted, and `tcc explain --large` "
-        "{LARGE_SESSIONS} and {LARGE_TRANSACTIONS}",),
     "docs/RECORDING.md": (
         "A history has at most {MAX_SESSIONS} sessions, or {LARGE_SESSIONS} with `--large`",
         "There are at most {MAX_SESSIONS}, each name once", "`TooManySessions` that {MAX_SESSIONS} are open"),
