@@ -54,7 +54,6 @@ HELD = {
         "names: 1 to {MAX_NAME_BYTES} bytes", "but a {MAX_SEALS+1}th is TooManySeals"),
     "docs/tcc.1": ("names: 1 to {MAX_NAME_BYTES} bytes", "N threads, 1 to {MAX_WORKERS}, order"),
     "docs/HEADLINE.md": ("`Workers`, a type of 1 to {MAX_WORKERS}",),
-    "docs/MODEL.md": ("more than {MAX_TRANSACTIONS} transactions, or those of more than {MAX_SESSIONS} sessions",),
     "crates/tcc_cli/src/command_line.rt": (
         "so many threads, 1 to {!MAX_WORKERS};", "Takes up to {!LARGE_TRANSACTIONS} transactions of {!LARGE_SESSIONS} sessions"),
     "crates/tcc_cli/src/help.rt": (
