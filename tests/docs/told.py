@@ -51,7 +51,7 @@ HELD = {
         "A history has at most {MAX_SESSIONS} sessions, or {LARGE_SESSIONS} with `--large`",
         "There are at most {MAX_SESSIONS}, each name once", "`TooManySessions` that {MAX_SESSIONS} are open"),
     "docs/FORMATS.md": (
-        "names: 1 to {MAX_NAME_BYTES} bytes", "but a {MAX_SEALS+1}th is TooManySeals"),
+        "names: 1 to {MAX_NAME_BYTES} bytes",),
     "docs/tcc.1": ("names: 1 to {MAX_NAME_BYTES} bytes", "N threads, 1 to {MAX_WORKERS}, order"),
     "docs/HEADLINE.md": ("`Workers`, a type of 1 to {MAX_WORKERS}",),
     "crates/tcc_cli/src/command_line.rt": (
