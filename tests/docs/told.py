@@ -47,17 +47,13 @@ HELD = {
     "docs/GUIDE.md": (
         "more than {MAX_SESSIONS} sessions or {MAX_TRANSACTIONS} transactions",
         "search for a small certificate, 1 to {MAX_WORKERS}."),
-    "recipes/README.md": (
-        "takes {MAX_SESSIONS} sessions and {MAX_TRANSACTIONS} transactions, aborted ones counted, and `tcc explain --large` "
-        "{LARGE_SESSIONS} and {LARGE_TRANSACTIONS}",),
     "docs/RECORDING.md": (
         "A history has at most {MAX_SESSIONS} sessions, or {LARGE_SESSIONS} with `--large`",
         "There are at most {MAX_SESSIONS}, each name once", "`TooManySessions` that {MAX_SESSIONS} are open"),
     "docs/FORMATS.md": (
-        "names: 1 to {MAX_NAME_BYTES} bytes", "but a {MAX_SEALS+1}th is TooManySeals"),
+        "names: 1 to {MAX_NAME_BYTES} bytes",),
     "docs/tcc.1": ("names: 1 to {MAX_NAME_BYTES} bytes", "N threads, 1 to {MAX_WORKERS}, order"),
     "docs/HEADLINE.md": ("`Workers`, a type of 1 to {MAX_WORKERS}",),
-    "docs/MODEL.md": ("more than {MAX_TRANSACTIONS} transactions, or those of more than {MAX_SESSIONS} sessions",),
     "crates/tcc_cli/src/command_line.rt": (
         "so many threads, 1 to {!MAX_WORKERS};", "Takes up to {!LARGE_TRANSACTIONS} transactions of {!LARGE_SESSIONS} sessions"),
     "crates/tcc_cli/src/help.rt": (
