@@ -18,7 +18,7 @@ use Rattle.tcc_cert.specs.declared.reading.input.Input.{Input}
 use Rattle.tcc_cert.specs.declared.reading.parts.CertReader.{CertReader}
 use Rattle.tcc_cert.specs.declared.reading.stages.ReadingStage.{ReadingStage}
 use Rattle.tcc_cert.specs.declared.reading.stages.ReadingStage.TheVariants as stage
-use Rattle.tcc_cert.specs.declared.reading.Tables.{Tables}
+use Rattle.tcc_cert.specs.declared.reading.ReadTables.{ReadTables}
 use Rattle.tcc_cert.specs.Ahead.{IsAhead, ended_in, fault_in, fault_met, has_ended, is_end, line_wanted, IsAheadIn}
 use Rattle.tcc_cert.specs.private.Collecting.{EndsIn, HasRow, HasRowsOf, clock_in, far_row_in, link_in, near_row_in}
 use Rattle.tcc_cert.specs.Outcomes.{IsFailure, IsReading}
@@ -43,7 +43,7 @@ kept-none ahead = record { links_kept = refl; clocks_kept = refl; near_kept = re
 rows-more : {X : Type 0} (old new one rest both all : List X) → all ≡ old ++ both → both ≡ one ++ rest → new ≡ old ++ one → all ≡ new ++ rest
 rows-more old new one rest both all is split more = is ∙ ap (λ rows. old ++ rows) split ∙ sym (append_assoc old one rest) ∙ ap (λ rows. rows ++ rest) (sym more)
 
-pub kept-more : (old new : Tables) (given : Part) (ahead now rest : Parts) → IsKept old.links.items old.clocks.items old.near.items old.far.items ahead now
+pub kept-more : (old new : ReadTables) (given : Part) (ahead now rest : Parts) → IsKept old.links.items old.clocks.items old.near.items old.far.items ahead now
     → now ≡ after_part given rest → HasRow given old new
     → IsKept new.links.items new.clocks.items new.near.items new.far.items ahead rest
 kept-more old new given ahead now rest kept is more =
@@ -75,7 +75,7 @@ first-rest (part.Near row) ahead rest goes is = is
 first-rest (part.Far row) ahead rest goes is = is
 first-rest part.End ahead rest goes is = absurd cc
 
-pub kept-all : (tables : Tables) (ahead now : Parts) → IsKept tables.links.items tables.clocks.items tables.near.items tables.far.items ahead now → now ≡ ending now.line None
+pub kept-all : (tables : ReadTables) (ahead now : Parts) → IsKept tables.links.items tables.clocks.items tables.near.items tables.far.items ahead now → now ≡ ending now.line None
     → HasRowsOf ahead tables
 kept-all tables ahead now kept is =
     record {
@@ -178,14 +178,14 @@ cycle-is (claim.Cycle k) head rest links near far is first second third =
     ∙ ap (λ rows. claim.Cycle (with_tables (cycle_head k) k.links k.near rows)) last)
 
 -- all parts were collected
-pub order-read : (bytes : List ℕ) (head : OrderHead) (rest : Parts) (tables : Tables) → parts_read bytes ≡ after_part (part.Order head) rest
+pub order-read : (bytes : List ℕ) (head : OrderHead) (rest : Parts) (tables : ReadTables) → parts_read bytes ≡ after_part (part.Order head) rest
     → HasRowsOf rest tables
     → certificate_read bytes ≡ Ok (claim.Order (with_clocks head tables.clocks.items))
 order-read bytes head rest tables is has =
     let whole = read-whole bytes (ap (λ p. p.fault) is ∙ has.ended) in
     whole.1 ∙ ap Ok (order-is whole.0 head rest.parts tables.clocks.items (sym (ap (λ p. p.parts) is) ∙ whole.2) has.clocks)
 
-pub cycle-read : (bytes : List ℕ) (head : CycleHead) (rest : Parts) (tables : Tables) → parts_read bytes ≡ after_part (part.Cycle head) rest
+pub cycle-read : (bytes : List ℕ) (head : CycleHead) (rest : Parts) (tables : ReadTables) → parts_read bytes ≡ after_part (part.Cycle head) rest
     → HasRowsOf rest tables
     → certificate_read bytes ≡ Ok (claim.Cycle (with_tables head tables.links.items tables.near.items tables.far.items))
 cycle-read bytes head rest tables is has =

@@ -11,7 +11,7 @@ use Rattle.tcc_derive.specs.declared.by_class.Class.{Class}
 use Rattle.tcc_core.specs.private.Offers.{IsLower, IsOffered}
 use Rattle.tcc_core.specs.private.Marked.{IsMarkWay}
 use Rattle.tcc_core.specs.private.Levels.{HasRoom, IsLevel, AreLevels, IsClassWay}
-use Rattle.tcc_core.specs.declared.levels.Level.{Level}
+use Rattle.tcc_core.specs.declared.levels.CostMarks.{CostMarks}
 use Rattle.tcc_core.specs.declared.levels.TheConstants.{LEVELS}
 use Rattle.tcc_core.proofs.Offered.{lower_least, offered_none, offered_then, offered_same}
 
@@ -24,7 +24,7 @@ wiped words zeros v mark =
 
 -- ---- what is met stays so while costs fall
 
-pub level_lower : (floor : ℕ) (old new : List ℕ) (level : Level) → IsLower floor old new → IsLevel old level → IsLevel new level
+pub level_lower : (floor : ℕ) (old new : List ℕ) (level : CostMarks) → IsLower floor old new → IsLevel old level → IsLevel new level
 level_lower floor old new level lower is = record {
   room = subst (λ (n : ℕ). HasRoom n level) (sym lower.long) is.room;
   met = λ some v within mark.
@@ -32,14 +32,14 @@ level_lower floor old new level lower is = record {
       omega (arith, is.met some v here mark, lower_least floor old new v lower here);
 }
 
-pub levels_lower : (floor : ℕ) (old new : List ℕ) (levels : List Level) → IsLower floor old new → AreLevels old levels → AreLevels new levels
+pub levels_lower : (floor : ℕ) (old new : List ℕ) (levels : List CostMarks) → IsLower floor old new → AreLevels old levels → AreLevels new levels
 levels_lower floor old new levels lower are = record {
   long = are.long;
   each = All-weaker (IsLevel old) (IsLevel new) (λ level is. level_lower floor old new level lower is) levels are.each;
 }
 
 -- one of the levels is another one now
-pub levels_set : (floor : ℕ) (old new : List ℕ) (levels : List Level) (k : ℕ) (level : Level) → IsLower floor old new → AreLevels old levels
+pub levels_set : (floor : ℕ) (old new : List ℕ) (levels : List CostMarks) (k : ℕ) (level : CostMarks) → IsLower floor old new → AreLevels old levels
     → IsLevel new level → AreLevels new (set levels k level)
 levels_set floor old new levels k level lower are is = record {
   long = length-set levels k level ∙ are.long;
@@ -47,7 +47,7 @@ levels_set floor old new levels k level lower are is = record {
 }
 
 -- what is settled costs 0
-pub levels_settled : (costs : List ℕ) (levels : List Level) (v : ℕ) → AreLevels costs levels → v < length costs → AreLevels (set costs v 0) levels
+pub levels_settled : (costs : List ℕ) (levels : List CostMarks) (v : ℕ) → AreLevels costs levels → v < length costs → AreLevels (set costs v 0) levels
 levels_settled costs levels v are within = record {
   long = are.long;
   each = All-weaker (IsLevel costs) (IsLevel (set costs v 0)) (λ level is. record {
@@ -61,14 +61,14 @@ levels_settled costs levels v are within = record {
     each u n low (inr other) = omega (arith, low, get_or-set_other costs v u 0 0 other)
 
 -- nothing is recorded as met
-pub levels_none : (costs : List ℕ) (levels : List Level) → length levels ≡ LEVELS → All (HasRoom (length costs)) levels → All (λ level. level.cost ≡ 0) levels
+pub levels_none : (costs : List ℕ) (levels : List CostMarks) → length levels ≡ LEVELS → All (HasRoom (length costs)) levels → All (λ level. level.cost ≡ 0) levels
     → AreLevels costs levels
 levels_none costs levels long room none = record {
   long = long;
   each = λ k d within. record { room = room k d within; met = λ some. absurd (omega (arith, some, none k d within)) };
 }
 
-pub levels_forgotten : (costs new : List ℕ) (levels blank : List Level) → AreLevels costs levels → length new ≡ length costs
+pub levels_forgotten : (costs new : List ℕ) (levels blank : List CostMarks) → AreLevels costs levels → length new ≡ length costs
     → length blank ≡ length levels → ((n : ℕ) → All (HasRoom n) levels → All (HasRoom n) blank) → All (λ level. level.cost ≡ 0) blank → AreLevels new blank
 levels_forgotten costs new levels blank are long same room none =
     let rooms : All (HasRoom (length costs)) blank

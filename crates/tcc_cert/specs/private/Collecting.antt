@@ -4,7 +4,7 @@ use Rattle.tcc_graph.specs.declared.link.Link.{Link}
 use Rattle.tcc_cert.specs.declared.fault.CertFault.{CertFault}
 use Rattle.tcc_cert.specs.declared.part.Part.{Part}
 use Rattle.tcc_cert.specs.declared.part.Part.TheVariants as part
-use Rattle.tcc_cert.specs.declared.reading.Tables.{Tables}
+use Rattle.tcc_cert.specs.declared.reading.ReadTables.{ReadTables}
 use Rattle.tcc_cert.specs.Outcomes.{IsFailure}
 use Rattle.tcc_cert.specs.Parts.{Parts}
 
@@ -26,7 +26,7 @@ far_row_in (part.Far row) = row ∷ []
 far_row_in _ = []
 
 -- one more link or row where the part is one
-pub record HasRow (given : Part) (old new : Tables) : Type 0 where
+pub record HasRow (given : Part) (old new : ReadTables) : Type 0 where
   pub links : new.links.items ≡ old.links.items ++ link_in given
   pub clocks : new.clocks.items ≡ old.clocks.items ++ clock_in given
   pub near : new.near.items ≡ old.near.items ++ near_row_in given
@@ -43,13 +43,13 @@ abbrev pub EndsIn : Parts → CertFault → Type 0
 EndsIn ahead fault = ((ahead.fault ≡ Some fault.kind) × (ahead.line ≡ fault.line)) ⊎ IsCutIn ahead fault
 
 -- the links and rows that were to come, up to the end
-pub record HasRowsOf (ahead : Parts) (tables : Tables) : Type 0 where
+pub record HasRowsOf (ahead : Parts) (tables : ReadTables) : Type 0 where
   pub links : tables.links.items ≡ flat_map link_in ahead.parts
   pub clocks : tables.clocks.items ≡ flat_map clock_in ahead.parts
   pub near : tables.near.items ≡ flat_map near_row_in ahead.parts
   pub far : tables.far.items ≡ flat_map far_row_in ahead.parts
   pub ended : ahead.fault ≡ None
 
-abbrev pub Collects : Parts → Result Tables CertFault → Type 0
+abbrev pub Collects : Parts → Result ReadTables CertFault → Type 0
 Collects ahead (Ok tables) = HasRowsOf ahead tables
 Collects ahead (Err fault) = EndsIn ahead fault

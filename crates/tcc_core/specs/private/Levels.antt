@@ -4,21 +4,21 @@ use Rattle.tcc_bits.specs.Bits.{is_marked, words_for}
 use Rattle.tcc_derive.specs.Limits.{AreWithin}
 use Rattle.tcc_derive.specs.Prices.{Tables}
 use Rattle.tcc_derive.specs.declared.by_class.Class.{Class}
-use Rattle.tcc_core.specs.declared.levels.Level.{Level}
+use Rattle.tcc_core.specs.declared.levels.CostMarks.{CostMarks}
 use Rattle.tcc_core.specs.declared.levels.TheConstants.{LEVELS}
 use Rattle.tcc_core.specs.private.Marked.{IsMet}
 
 -- a level with room for n marks
-abbrev pub HasRoom : ℕ → Level → Type 0
+abbrev pub HasRoom : ℕ → CostMarks → Type 0
 HasRoom n level = length level.marks.items ≡ words_for n
 
 -- a level marks what is met at its cost, if that isn't 0
-pub record IsLevel (costs : List ℕ) (level : Level) : Type 0 where
+pub record IsLevel (costs : List ℕ) (level : CostMarks) : Type 0 where
   pub room : HasRoom (length costs) level
   pub met : 0 < level.cost → IsMet level.cost level.marks.items costs
 
 -- as many levels as there may be costs at one time
-pub record AreLevels (costs : List ℕ) (levels : List Level) : Type 0 where
+pub record AreLevels (costs : List ℕ) (levels : List CostMarks) : Type 0 where
   pub long : length levels ≡ LEVELS
   pub each : All (IsLevel costs) levels
 
