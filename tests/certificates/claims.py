@@ -8,7 +8,7 @@ from rules import MOST_JUDGED, cost_of, ends
 
 WORD = re.compile(rb"(?<![^ \n])[0-9]+(?![^ \n])")
 # Numbers at the ends of ranges, and past them.
-EDGES = (0, 1, 65534, 65535, 65536, 16777215, 16777216, 4294967295, 4294967296)
+EDGES = (0, 1, 65534, 65535, 65536, (1 << 24) - 1, 1 << 24, (1 << 32) - 1, 1 << 32)
 
 
 def runs_of(history, order):

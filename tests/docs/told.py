@@ -7,8 +7,8 @@ The words of a status are those of its variant in `crates/tcc_print/src/status.r
 limits are the constants of `crates/tcc_txn/src/limits.rt` and of `crates/tcc_base/src/workers.rt`. From these come the exit
 statuses and the limits of docs/GUIDE.md and of the man page, the limits of the package, and the sentences with a limit in documents
 and help (`HELD`). The rule of ties in docs/MODEL.md comes from the comments of `crates/tcc_graph/specs/Ties.antt`. `--write` writes
-them all anew. `kinds.py` writes what names the kinds of faults. Help has to name each status, and README has no more words than it
-may have. Each difference is one line, as `run.py` has it, which asks this too; the last line is `N passed, M failed`.
+them all anew. `kinds.py` writes what names the kinds of faults. Help has to name each status, README has no more words than it may
+have, and the limits on transactions are in few files: others name the constant. Each difference is one line, as `run.py` has it, which asks this too; the last line is `N passed, M failed`.
 """
 import pathlib
 import re
@@ -24,7 +24,8 @@ from limits import filled, form_of, limits  # noqa: E402
 
 README, GUIDE, MODEL, PAGE = TOP / "README.md", TOP / "docs/GUIDE.md", TOP / "docs/MODEL.md", TOP / "docs/tcc.1"
 LIMITS_OF_PACKAGE = TOP / "python/tcc/common/limits.py"
-MOST_WORDS = 886
+MOST_WORDS, MOST_FILES = 886, 25
+WITH_NUMBERS = {".1", ".antt", ".bash", ".edit", ".json", ".md", ".py", ".rt", ".toml", ".txt"}
 VARIANT = re.compile(r"((?: *///.*\n)+) *(\w+),\n")
 QUOTED = re.compile(r"`([^`]+)`")
 COMPARED = re.compile(r"((?:^-- .*\n)+)abbrev pub (\w+_(?:cmp|kind)) :", re.MULTILINE)
@@ -141,6 +142,15 @@ def faults_of_help() -> Iterator[Outcome]:
     yield "statuses of help", None if {int(one) for one in shown} == wanted else "they aren't those of status.rt"
 
 
+def faults_of_numbers() -> Iterator[Outcome]:
+    """Whether no more files have the limits on transactions as numbers than may."""
+    plain = [str(limits()[name]) for name in ("MAX_TRANSACTIONS", "LARGE_TRANSACTIONS")]
+    number = re.compile("|".join("[,_]?".join([one[:len(one) % 3], *re.findall("...", one[len(one) % 3:])]).lstrip("[,_]?") for one in plain))
+    paths = (path for path in TOP.rglob("*") if path.suffix in WITH_NUMBERS and not {"out", ".git", "made"} & set(path.relative_to(TOP).parts))
+    found = sorted(path.relative_to(TOP).as_posix() for path in paths if number.search(path.read_text()))
+    yield "limits in files", None if len(found) <= MOST_FILES else "%d have them, and %d may: %s" % (len(found), MOST_FILES, ", ".join(found))
+
+
 def outcomes() -> Iterator[Outcome]:
     for path, pattern, wanted in WRITTEN:
         found = re.search(pattern, path.read_text(), re.DOTALL)
@@ -153,6 +163,7 @@ def outcomes() -> Iterator[Outcome]:
             fault = None if filled(template) in text else "it has no '%s': tests/docs/told.py --write" % filled(template)
             yield "%s: '%s..'" % (path, template[:40]), fault
     yield from faults_of_help()
+    yield from faults_of_numbers()
     count = len(README.read_text().split())
     yield "words of README", None if count <= MOST_WORDS else "%d, and %d are allowed" % (count, MOST_WORDS)
 

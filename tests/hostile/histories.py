@@ -7,6 +7,11 @@ import itertools
 import random
 from typing import Iterable, Iterator, List, NamedTuple, Tuple
 
+from limits import limits
+
+# The most transactions of a small history.
+MOST = limits()["MAX_TRANSACTIONS"]
+
 
 class Hard(NamedTuple):
     """A history: what there is much of, the words of the run, its records, and how the answer begins."""
@@ -309,7 +314,7 @@ def hard() -> Iterator[Hard]:
     """The histories, at sizes of a second and less. At `atomic` who reads an old value by one pair alone isn't
     contradicted by what it knows by two."""
     large, atomic, small = (["explain", *words] for words in (["--large"], ["--large", "--level", "atomic"], ["--level", "atomic"]))
-    yield Hard("waiting", large, records_of(waiting(1365, 2729)), "consistent: 5471 transactions, 4095 sessions\n")
+    yield Hard("waiting", large, records_of(waiting(1365, 2729)), "consistent: 5471 transactions, %d sessions\n" % (3 * 1365))
     yield Hard("overwritten", atomic, records_of(read_early(30000, 30000, 1)), "consistent: 60002 transactions, 3 sessions\n")
     yield Hard("never written", atomic, records_of(read_early(30000, 30000, 0)), "consistent: 60002 transactions, 3 sessions\n")
     yield Hard("crossed", atomic, records_of(crossed(250, 400)), "consistent: 650 transactions, 33 sessions\n")
@@ -324,8 +329,8 @@ def hard() -> Iterator[Hard]:
     yield Hard("ring", large, records_of(ring(1000, 64, 20000)), "anomaly: 3003 steps, ")
     yield Hard("windowed", large, records_of(windowed(4000, 60, 62)), "anomaly: 60 steps, overwritten-read\n")
     yield Hard("stale beside", large, records_of(stale_beside(64, 255, 40000)), "anomaly: 3 steps, ")
-    yield Hard("circling", large, records_of(circling(4095, 100)), "anomaly: 2 steps, cyclic-causality\n")
-    yield Hard("circling at atomic", small, records_of(circling(4095, 100)), "anomaly: 2 steps, cyclic-causality\n")
+    yield Hard("circling", large, records_of(circling(MOST, 100)), "anomaly: 2 steps, cyclic-causality\n")
+    yield Hard("circling at atomic", small, records_of(circling(MOST, 100)), "anomaly: 2 steps, cyclic-causality\n")
     yield Hard("one stale among many", large, records_of(one_stale_among_many(60000, 4096)), "anomaly: 3 steps, overwritten-read\n")
     survey = ["survey", "--large"]
     yield Hard("surveyed: initial reads", survey, records_of(read_initial(60000, 60000)), "0 contradicted reads of 60001, 0 faults\n")

@@ -61,8 +61,8 @@ def limits() -> Iterator[Outcome]:
     """Clients times transactions may be what `tcc` takes, and no more."""
     from tcc.harness import recipe
     for words, wanted in ((["--clients", "5", "--transactions", "3355443"], "taken"), (["--clients", "5", "--transactions", "3355444"], "refused"),
-                          (["--clients", "4095", "--transactions", "4097"], "taken"), (["--clients", "4095", "--transactions", "4098"], "refused"),
-                          (["--clients", "4096"], "refused"), (["--transactions", "16777216"], "refused")):
+                          (["--clients", str(recipe.CLIENTS), "--transactions", "4097"], "taken"),
+                          (["--clients", str(recipe.CLIENTS), "--transactions", "4098"], "refused"), (["--clients", str(recipe.CLIENTS + 1)], "refused"), (["--transactions", "16777216"], "refused")):
         before, sys.argv = sys.argv, ["record.py", *words]
         try:
             with contextlib.redirect_stderr(io.StringIO()):

@@ -20,11 +20,13 @@ from tcc.harness.store import Store
 from tcc.harness.troubles import Trouble, in_turns, kill, pause
 from tcc.harness.workloads import Keys, Workload
 from tcc.common.limits import DEFAULT, LARGE, LARGE_KEYS, LARGE_TRANSACTIONS
+from tcc.record.written import RECORDERS
 from tcc.watch.looking import Told
 from tcc.common.whole import written_whole
 from tcc.common.words import add_tcc, count_within
 
-CLIENTS = 4095
+# Each client has the number of a recorder, from 1.
+CLIENTS = RECORDERS - 1
 # A round goes on for so many times its seconds where clients have done too little, as on a busy machine.
 LONGER = 10
 # The status of a recorder whose round wasn't played, as where a server didn't answer in time; played again it may be.

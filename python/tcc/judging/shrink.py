@@ -25,7 +25,7 @@ from tcc.judging.runner import Anomaly, Answer, Consistent, Step
 
 EXAMPLE = """example: what is wrong in a long history, in a few records
   $ tcc-shrink records.csv -o small.csv
-  tcc-shrink: anomaly, stale-initial-read: 2 of 4095 transactions, 2 of 12285 operations; 41 histories judged
+  tcc-shrink: anomaly, stale-initial-read: 2 of 20 transactions, 2 of 41 operations; N histories judged
 """
 NOT_SHRUNK = 3
 SEAL = "seal"

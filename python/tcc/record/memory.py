@@ -16,7 +16,7 @@ class MemoryRecorder(Recording):
             one.read("x", store.get("x"))
         assert_causal(recorder)
 
-    `number`, 0 to 4095, tells the values of several recorders of one store apart.
+    `number`, below 4096, tells the values of several recorders of one store apart.
     """
 
     def __init__(self, number: int = 0):

@@ -58,7 +58,7 @@ NOT_ENDED = "unknown: the recorder was closed before it ended"
 class Recorder(Recording):
     """Records into a file, which may hold records of an earlier run: then it goes on after them.
 
-    `number`, 0 to 4095, tells the values of several recorders of one store apart. `notes` is a file for annotations: node, time and
+    `number`, below 4096, tells the values of several recorders of one store apart. `notes` is a file for annotations: node, time and
     note of each transaction. With `syncs` what is appended reaches the disk before the call returns, so that it survives the end of
     the machine, and not only of the process. `ask` is called with an answer for what was recorded so far, the first one and each of
     another kind. A thread asks again each time that the records have grown by a quarter. `watch` is the same by `tcc watch`, at the cost
