@@ -104,7 +104,7 @@ def arm(names: List[str], guard: str, call: str, arguments: List[str]) -> str:
 
 
 def of_code(list_of: str, enum: str) -> str:
-    return "".join(arm([matched_in_code(enum, one)], "", "Told::new", ['"%s"' % one["kind"], "Status::" + one["status"]])
+    return "".join(arm([matched_in_code(enum, one)], "", "KindReport::new", ['"%s"' % one["kind"], "Status::" + one["status"]])
                    for one in kinds()[list_of])
 
 
@@ -282,8 +282,8 @@ WRITTEN: Tuple[Tuple[str, str, Callable[[], str]], ...] = (
     ("crates/tcc_rows/src/fault.rt", r"(?s:pub enum RowFaultKind \{\n.*?\n\}\n)", variants),
     ("crates/tcc_print/specs/Kinds.antt", r"(?m:^row_told .*\n)+(?=\n)", lambda: of_specs("row", "row_told", "row")),
     ("crates/tcc_print/specs/Kinds.antt", r"(?:certificate_told text_kind.*\n)+", lambda: of_specs("certificate", "certificate_told", "text")),
-    ("crates/tcc_print/src/kinds.rt", r"(?: +RowFaultKind::.* => Told::new\([^)]*\),\n)+", lambda: of_code("row", "RowFaultKind")),
-    ("crates/tcc_print/src/kinds.rt", r"(?: +CertFaultKind::.* => Told::new\([^)]*\),\n)+", lambda: of_code("certificate", "CertFaultKind")),
+    ("crates/tcc_print/src/kinds.rt", r"(?: +RowFaultKind::.* => KindReport::new\([^)]*\),\n)+", lambda: of_code("row", "RowFaultKind")),
+    ("crates/tcc_print/src/kinds.rt", r"(?: +CertFaultKind::.* => KindReport::new\([^)]*\),\n)+", lambda: of_code("certificate", "CertFaultKind")),
     ("crates/tcc_print/specs/RowNotes.antt", r"(?m:^shown_of .*\n)+", quoted_in_specs),
     ("crates/tcc_print/specs/RowNotes.antt", r"(?m:^expected_text .*\n)+", expected_in_specs),
     ("crates/tcc_print/src/notes/mending.rt", ARMS % r"shown_of kind\.now fields", quoted_in_code),

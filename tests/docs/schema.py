@@ -29,7 +29,7 @@ MAY_LACK = {("consistent", "order"), ("anomaly", "least"), ("row", "session"), (
 # How the lines of a program or a script begin.
 BEGINS = ('{"answer"', '{"contradicted"', '{"count"')
 ENUMS = (
-    (("row", "properties", "kind"), "crates/tcc_print/src/kinds.rt", r"RowFaultKind::(\w+)[^=]*=> Told", {"NoMemory", "Unfinished"}),
+    (("row", "properties", "kind"), "crates/tcc_print/src/kinds.rt", r"RowFaultKind::(\w+)[^=]*=> KindReport", {"NoMemory", "Unfinished"}),
     (("fault", "properties", "kind"), "crates/tcc_reads/src/fault.rt", r"#\[error\([^)]*\)\]\n    (\w+),\n", {"NoMemory"}),
     (("anomaly", "properties", "shape"), "crates/tcc_answer/src/text.rt", r'Shape::\w+ => "([a-z-]+)"', set()),
     (("usual-name",), "crates/tcc_survey_run/src/naming.rt", r'UsualName::\w+ => "([a-z ]+)"', set()),
