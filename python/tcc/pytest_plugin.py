@@ -21,7 +21,8 @@ from typing import Any, Iterator, Optional, Union
 from tcc.common.appended import Path
 from tcc.judging import judge
 from tcc.judging.program import NoAnswer
-from tcc.judging.runner import Consistent, Unresolved, contradicted, explain
+from tcc.judging.runner import Consistent, Unresolved, explain
+from tcc.judging.survey import survey
 from tcc.record.known import hint_of_pending
 from tcc.record.memory import MemoryRecorder
 from tcc.record.recorder import VERSIONS, Recorder
@@ -95,7 +96,8 @@ class AssertCausal:
             pytest.fail("nothing was judged: %s (records: %s)" % (error, records), pytrace=False)
         if isinstance(answer, Consistent):
             return answer
-        is_contradicted = isinstance(answer, Unresolved) and contradicted(records, level=level, large=large, tcc=self.tcc) > 0
+        is_contradicted = isinstance(answer, Unresolved) and survey(
+            records, level=level, large=large, tcc=self.tcc, sessions=sessions, notes=notes, versions=versions, two_versions=two_versions).is_any()
         hint = hint_of_pending(records, {(one.key, one.value) for one in answer.faults}) if isinstance(answer, Unresolved) else ""
         pytest.fail("%s (records: %s)\n%s%s" % (judge.fault_of(answer, is_contradicted), records, answer.text(), hint), pytrace=False)
 

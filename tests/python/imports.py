@@ -74,8 +74,8 @@ def apart() -> Iterator[Outcome]:
     lists = Lists(every, ["a", "b", "c"])
     lines = "".join(lists.records(with_faults=True)).splitlines()
     wrong = {line.split(",")[2] for line in lines if line[0] not in "abc" and line.count(",") == 3}
-    yield differs("registers of elements", (1, set()), (len(lists.elements), keys & set(lists.elements)))
-    yield differs("keys of what is wrong", (1, set()), (len(wrong), wrong & (keys | set(lists.elements))))
+    yield differs("registers of elements", (1, set()), (len(lists.registers()), keys & lists.registers()))
+    yield differs("keys of what is wrong", (1, set()), (len(wrong), wrong & (keys | lists.registers())))
 
 
 def initial() -> Iterator[Outcome]:

@@ -53,6 +53,7 @@ def recorded(folder: pathlib.Path, library: str, tcc: List[str]) -> Iterator[Out
             one.write("z", 5, version=3)
     yield differs("versions after a restart", ["key,value,version", "x,1,10", "x,2,20", "z,5,3"], versions.read_text().split())
     out = folder / "versioned-judged.csv"
+    yield from listed(folder, path, versions, library, tcc)
     words = [sys.executable, os.path.join(library, "bin/tcc-versions"), str(path), str(versions), "-o", str(out)]
     done = run(words, library)
     yield differs("tcc-versions", (1, "c/2 read x = 1, version 10, and knew of version 20 by b/1\n"), (done.returncode, done.stdout))
@@ -77,6 +78,48 @@ def recorded(folder: pathlib.Path, library: str, tcc: List[str]) -> Iterator[Out
     with Recorder(folder / "no-versions.csv") as recorder:
         with recorder.session("a").transaction() as one:
             yield "a version without a file", raises(NoRecord, lambda: one.read("x", 1, version=1))
+
+
+def listed(folder: pathlib.Path, path: pathlib.Path, versions: pathlib.Path, library: str, tcc: List[str]) -> Iterator[Outcome]:
+    """A survey with versions speaks of the records' own keys, and has each read once, as have `tcc-all` and `tcc-look`. The records are
+    `RECORDS`, and d/1, which reads x and y and writes z."""
+    from tcc import NoAnswer, explain, survey
+    found, notes = survey(path, tcc=tcc[-1], versions=versions), folder / "listed.notes"
+    text = "contradicted c/2 op 1 x 1: knew of b/1, monotonic reads, by versions\nmonotonic reads: 1\n1 contradicted reads of 4, 0 faults\n"
+    yield differs("a survey with versions", text, found.text())
+    wanted = [{"contradicted": "c/2", "key": "x", "name": "monotonic reads", "op": 1, "value": 1, "versions": True, "writer": "b/1"},
+              {"count": 1, "name": "monotonic reads"}, {"answer": "survey", "contradicted": 1, "faults": 0, "reads": 4}]
+    yield differs("and as JSON", wanted, [json.loads(line) for line in found.json().splitlines()])
+    yield differs("a survey without versions", "0 contradicted reads of 4, 0 faults\n", survey(path, tcc=tcc[-1]).text())
+    links = [("version", "x"), ("derived", "x")]
+    told = json.loads(explain(path, tcc=tcc[-1], versions=versions).json())
+    yield differs("JSON of an answer with versions", (links, 4), ([(one["kind"], one["key"]) for one in told["cycle"]], told["steps"]))
+    both = folder / "both.csv"  # e/2 read the initial x, though it had read b/1; by its time it was before c/2
+    both.write_text("".join(line + "\n" for line in [*RECORDS, "e,begin", "e,r,x,2", "e,commit", "e,begin", "e,r,x,0", "e,r,x,0", "e,commit"]))
+    for about, times, first in (("no times", {}, ("c/2", 11, "row")), ("times", {"c/2": "2.5", "e/2": "1.5"}, ("e/2", 17, "time")),
+                                ("one time", {"e/2": "1.5"}, ("c/2", 11, "row"))):
+        notes.write_text("transaction,time\n" + "".join("%s,%s\n" % pair for pair in times.items()))
+        one, by = survey(both, tcc=tcc[-1], versions=versions, notes=notes).first() or (None, "")
+        yield differs("the first contradicted read, %s" % about, first, (one and one.reader, one and one.row, by))
+    command = [sys.executable, os.path.join(library, "bin/tcc-all"), "--tcc", os.path.abspath(tcc[-1]), "--versions", str(versions), str(both)]
+    lines = ["1: monotonic reads: c/2 read x = 1 from a/1, row 11; it knew of b/1", "2: monotonic reads: e/2 read x = 0 from init, rows 17, 18; it knew of b/1",
+             "consistent behind 3 struck reads: 6 transactions, 4 sessions", "monotonic reads: 2"]
+    yield differs("tcc-all with versions", lines, run(command, library).stdout.splitlines())
+    crossed, numbers = folder / "crossed.csv", folder / "crossed.versions"
+    crossed.write_text("a,begin\na,w,x,1\na,commit\na,begin\na,w,x,2\na,commit\n")
+    numbers.write_text("x,2,10\nx,1,20\n")
+    lines = ["1: 2 steps, versions-out-of-order: by its version a/2 comes before a/1 at x", "consistent without 1 versions: 2 transactions, 1 sessions",
+             "versions out of order: 1"]
+    yield differs("tcc-all of versions that a session contradicts", lines, run([*command[:-2], str(numbers), str(crossed)], library).stdout.splitlines())
+    command = [sys.executable, os.path.join(library, "bin/tcc-look"), "--tcc", os.path.abspath(tcc[-1]), str(path)]
+    torn = folder / "torn.versions"  # its last line isn't whole yet
+    torn.write_text(versions.read_text() + "x,1,")
+    for words, status in (([], 0), (["--versions", str(versions)], 1), (["--versions", str(torn), "--versions", str(numbers)], 6)):
+        done = run([*command, *words], library)
+        yield differs("tcc-look %s" % " ".join(words), status, done.returncode)
+        yield differs("keys of tcc-look", False, "x.v" in done.stdout or "o.1" in done.stdout)
+    numbers.write_text("x,0,1\nx,1,0\n")
+    yield "a survey with versions that are none", raises(NoAnswer, lambda: survey(path, tcc=tcc[-1], versions=numbers))
 
 
 def doubtful(folder: pathlib.Path, path: pathlib.Path, tcc: List[str]) -> Iterator[Outcome]:
@@ -235,9 +278,10 @@ def asked(tcc: List[str], words: List[str], records: str) -> "subprocess.Complet
     return subprocess.run([*tcc, *words], input=records, capture_output=True, text=True, timeout=SECONDS, check=False)
 
 
-def by_definition(tcc: List[str], count: int) -> Iterator[Outcome]:
+def by_definition(folder: pathlib.Path, tcc: List[str], count: int) -> Iterator[Outcome]:
     """Random histories: there is an answer `consistent` exactly where there is an order, and the contradicted reads are those of the
-    definition, as they are worked out and as `tcc survey` lists them."""
+    definition, as they are worked out, as `tcc survey` lists them, and, each once, as the package does."""
+    from tcc import survey
     from tcc.common.rows import read_history
     from tcc.judging.versions import Versioned
     wrong, good, bad, by_versions = None, 0, 0, 0
@@ -264,6 +308,12 @@ def by_definition(tcc: List[str], count: int) -> Iterator[Outcome]:
                   if "contradicted" in one and not told.is_made(one["contradicted"])}
         if listed != stale | plain:
             wrong = wrong or "seed %d: survey lists %s, and not %s" % (seed, listed, stale | plain)
+        path, beside = folder / "random.csv", folder / "random.versions"
+        path.write_text(text_of(every))
+        beside.write_text("".join("%s,%d,%d\n" % (key, *pair) for key, each in versions.items() for pair in each.items()))
+        mine = survey(path, tcc=tcc[-1], versions=beside)
+        if sorted((one.reader, one.key) for one in mine.contradicted) != sorted(stale | plain):
+            wrong = wrong or "seed %d: the package's survey lists %s" % (seed, mine.text())
         wrong = wrong or next(("seed %d: no walks for %s" % (seed, one) for one in told.stale if not told.cycle_of(one)), None)
     yield "histories with versions", wrong or (None if min(good, bad) > count // 10 and by_versions > count // 20 else "only %d, %d, %d" % (
         good, bad, by_versions))
@@ -274,4 +324,4 @@ def outcomes(folder: pathlib.Path, library: str, tcc: List[str]) -> Iterator[Out
     yield from retold(folder)
     yield from neighbours()
     yield from apart()
-    yield from by_definition(tcc, 150)
+    yield from by_definition(folder, tcc, 150)

@@ -18,7 +18,7 @@ import csv
 import math
 import os
 from dataclasses import dataclass, fields
-from typing import Dict, Iterable, Iterator, List, Tuple, Union
+from typing import Dict, Iterable, Iterator, List, Optional, Tuple, Union
 
 from tcc.common.whole import written_whole
 
@@ -103,6 +103,11 @@ def is_time(cell: str) -> bool:
         return math.isfinite(float(cell))
     except ValueError:
         return False
+
+
+def seconds_of(note: Note) -> Optional[float]:
+    """The time of a transaction, where it has one."""
+    return float(note.time) if is_time(note.time) else None
 
 
 def write_notes(path: Path, notes: Iterable[Tuple[str, Note]]) -> None:

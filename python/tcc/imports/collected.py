@@ -9,7 +9,7 @@ import re
 from array import array
 from collections import Counter
 from dataclasses import dataclass, field
-from typing import Any, Counter as Count, Dict, List, Optional, Sequence, Set, Tuple, Union, cast
+from typing import Any, Counter as Count, Dict, List, NamedTuple, Optional, Sequence, Set, Tuple, Union, cast
 
 from tcc.common.rows import GREATEST_VALUE, Json
 from tcc.imports.checks import Checks
@@ -17,16 +17,18 @@ from tcc.imports.edn import NoEdn, Reader, Word, atom
 from tcc.imports.list_history import APPEND, FAIL, INFO, LIST, OK, READ, WRITE as WRITES, Step as ListStep
 from tcc.imports.names import Names, plain_cell, plain_name, plain_session
 from tcc.imports.operations import (
-    STEP, TYPES, WRITE, Chosen, Operation, Step, Untold, is_number, spelled, steps, without_cas, written)
+    STEP, TYPES, Chosen, Operation, Step, Untold, is_number, spelled, steps, without_cas, written)
 
 OUTCOMES = {"ok": OK, "fail": FAIL, "info": INFO}
+KINDS = {"r": READ, "w": WRITES, "append": APPEND}
 DIGITS = re.compile(r"[1-9][0-9]{0,18}")
 # The steps of a transaction as they came: the text of a usual map of EDN, a usual list of JSON, or steps; none where it had none.
 Raw = Union[None, str, list, Tuple[Step, ...]]
+# What STEP finds of one: what it does, its key, digits, the items of a list, and another word.
+Found = Tuple[str, str, str, str, str]
 
 
-@dataclass(frozen=True)
-class Waiting:
+class Waiting(NamedTuple):
     """An invoke that nothing followed so far."""
 
     line: int
@@ -79,6 +81,7 @@ class Collected:
     _texts: Dict[str, str] = field(default_factory=dict)  # and of those that are texts
     _whole: Dict[int, str] = field(default_factory=dict)  # and of those that are whole numbers
     _numbers: Dict[str, int] = field(default_factory=dict)
+    _grown: Dict[str, str] = field(default_factory=dict)  # of each key a longest list that was read, of which others are beginnings
     _has_list: bool = False
 
     def __post_init__(self) -> None:
@@ -157,15 +160,13 @@ class Collected:
     def _end(self, line: int, outcome: int, process: str, raw: Raw, index: Optional[int], invoked: Optional[Waiting],
              time: Optional[int], node: Optional[str]) -> None:
         """Takes a transaction, by the line that says how it went and by its invoke."""
-        if outcome == OK:
-            if raw is None:
-                raise Untold(line, "an ok without a value")
-            if invoked and invoked.raw is not None and not same_writes(line, raw, invoked, self.has_versions):
-                raise Untold(line, "its writes aren't those of its invoke in line %d" % invoked.line)
-        else:
+        if outcome != OK:
             raw = invoked.raw if invoked and invoked.raw is not None else raw
-            if raw is None:
-                raise Untold(line, "neither it nor its invoke says what it would write")
+        if raw is None:
+            raise Untold(line, "an ok without a value" if outcome == OK else "neither it nor its invoke says what it would write")
+        told = STEP.findall(raw) if type(raw) is str else []
+        if outcome == OK and invoked and invoked.raw is not None and not same_writes(line, raw, told, invoked, self.has_versions):
+            raise Untold(line, "its writes aren't those of its invoke in line %d" % invoked.line)
         if type(raw) is tuple:
             raw = without_cas(raw, outcome == FAIL)
         parts: List[str] = []
@@ -173,9 +174,10 @@ class Collected:
             raise Untold(line, "an append to a list, which has no versions: its order is told by what is read")
         if not self.has_appends:
             self._has_list = False
-            parts = self._parts(line, raw, outcome == OK)
+            parts = self._parts_of_text(line, told, outcome == OK) if type(raw) is str else self._parts(line, raw, outcome == OK)
         if self.has_appends or self._has_list:
-            self.listed[len(self.texts)] = self._steps(line, raw, outcome == OK)
+            self.listed[len(self.texts)] = (self._steps_of_text(line, told, outcome == OK) if type(raw) is str else
+                                            self._steps(line, cast(Sequence[Any], raw), outcome == OK))
         if len(parts) > self.longest:
             self.longest = len(parts)
         self.begun.append(invoked.line if invoked else line)
@@ -195,8 +197,6 @@ class Collected:
     # What a transaction did, as records without its session.
 
     def _parts(self, line: int, raw: Raw, with_reads: bool) -> List[str]:
-        if type(raw) is str:
-            return self._parts_of_text(line, raw, with_reads)
         parts: List[str] = []
         every: Sequence[Any] = raw or ()
         texts, whole = self._texts, self._whole
@@ -219,15 +219,15 @@ class Collected:
                 parts.append("%s,%s,%s" % ("r" if does == "r" else "w", name, value))
         return parts
 
-    def _parts_of_text(self, line: int, raw: str, with_reads: bool) -> List[str]:
+    def _parts_of_text(self, line: int, told: List[Found], with_reads: bool) -> List[str]:
         parts: List[str] = []
         words, put = self._words, parts.append
-        for does, key, digits, items, other in STEP.findall(raw):
+        for does, key, digits, items, other in told:
             if self.has_versions and not digits and not other and (does != "r" or with_reads):
                 name = words.get(key) or self._word(line, key)
-                told = self._versioned(line, does, name, [atom(one) for one in items.replace(",", " ").split()])
-                if told is not None:
-                    put("%s,%s,%s" % ("r" if does == "r" else "w", name, told))
+                value = self._versioned(line, does, name, [atom(one) for one in items.replace(",", " ").split()])
+                if value is not None:
+                    put("%s,%s,%s" % ("r" if does == "r" else "w", name, value))
                 continue
             if does == "r":
                 if not with_reads:
@@ -276,39 +276,54 @@ class Collected:
             self.told_versions.append((line, name, str(value), version))
         return value
 
-    def _steps(self, line: int, raw: Raw, with_reads: bool) -> List[ListStep]:
+    def _steps(self, line: int, raw: Sequence[Any], with_reads: bool) -> List[ListStep]:
         """What a transaction of lists did; what it only wanted to read isn't counted twice."""
         found: List[ListStep] = []
-        every = STEP.findall(raw) if type(raw) is str else [
-            one if type(one) is list else (one.does, json.loads(one.key), json.loads(one.value)) for one in cast(Sequence[Any], raw or ())]
-        for one in every:
-            does, key = one[0], one[1]
+        for one in raw:
+            does, key, what = one if type(one) is list else (one.does, json.loads(one.key), json.loads(one.value))
             if does == "r" and not with_reads:
                 self.left_out += self.has_appends
                 continue
-            if len(one) == 3:
-                name, what = self._key(line, key), one[2]
-            else:
-                name, (digits, items, other) = self._words.get(key) or self._word(line, key), one[2:]
-                what = int(digits) if digits else atom(other) if other else items
-                if not digits and not other and does == "r":
-                    found.append(ListStep(LIST, name, self._elements(line, name, items)))
-                    continue
-                what = what if digits or other else [atom(each) for each in items.replace(",", " ").split()]
+            name = self._key(line, key)
             if does == "r" and type(what) is list:
                 found.append(ListStep(LIST, name, "".join(" " + str(self._value(line, "r", name, each)) for each in what)))
             else:
-                kind = {"r": READ, "w": WRITES, "append": APPEND}[does]
-                found.append(ListStep(kind, name, str(self._value(line, does, name, what))))
+                found.append(ListStep(KINDS[does], name, str(self._value(line, does, name, what))))
+        return found
+
+    def _steps_of_text(self, line: int, told: List[Found], with_reads: bool) -> List[ListStep]:
+        """The same of a text."""
+        found: List[ListStep] = []
+        words, put = self._words, found.append
+        for does, key, digits, items, other in told:
+            if does == "r" and not with_reads:
+                self.left_out += self.has_appends
+                continue
+            name = words.get(key) or self._word(line, key)
+            if does == "r" and not digits and not other:
+                put(ListStep(LIST, name, self._elements(line, name, items)))
+            else:
+                put(ListStep(KINDS[does], name, digits or str(self._value(
+                    line, does, name, atom(other) if other else [atom(each) for each in items.replace(",", " ").split()]))))
         return found
 
     def _elements(self, line: int, name: str, items: str) -> str:
-        """The elements of a list of EDN, each after a space."""
-        words = items.replace(",", " ").split()
-        joined = "".join(words)
-        if not words:
+        """The elements of a list of EDN, each after a space. Most lists are the beginning of one that was read before, or go on after it."""
+        grown, length = self._grown.get(name, ""), len(items) + 1
+        if items and grown.startswith(items, 1) and grown[length:length + 1] in ("", " "):
+            return grown[:length]
+        goes_on = len(grown) > 1 and items.startswith(grown[1:]) and items[len(grown) - 1] == " "
+        words = (items[len(grown):] if goes_on else items).replace(",", " ").split()
+        if not words and not goes_on:
             return ""
-        text = " " + " ".join(words)
+        text = (grown if goes_on else "") + self._texts_of(line, name, words)
+        if len(text) > len(grown) and text[1:] == items:
+            self._grown[name] = text
+        return text
+
+    def _texts_of(self, line: int, name: str, words: List[str]) -> str:
+        """Elements of EDN, each after a space."""
+        joined, text = "".join(words), "".join([" " + one for one in words])
         if joined.isdigit() and joined.isascii() and " 0" not in text and max(map(len, words)) < 20 and not self.numbers_are_initial:
             return text
         return "".join(" " + str(self._value(line, "r", name, atom(one))) for one in words)
@@ -354,11 +369,11 @@ def plain_steps(told: Tuple[Step, ...]) -> Tuple[Step, ...]:
     return tuple(found)
 
 
-def same_writes(line: int, raw: Raw, invoked: Waiting, has_versions: bool) -> bool:
-    """Whether a transaction writes what its invoke said."""
+def same_writes(line: int, raw: Raw, told: List[Found], invoked: Waiting, has_versions: bool) -> bool:
+    """Whether a transaction, of whose text this was found, writes what its invoke said."""
     if has_versions:
         return written(plain_steps(steps_of(line, raw))) == written(plain_steps(steps_of(invoked.line, invoked.raw)))
-    if type(raw) is str and type(invoked.raw) is str and WRITE.findall(raw) == WRITE.findall(invoked.raw):
+    if type(invoked.raw) is str and told and [one for one in told if one[0] != "r"] == [one for one in STEP.findall(invoked.raw) if one[0] != "r"]:
         return True
     if isinstance(raw, list) and isinstance(invoked.raw, list):
         mine, its = ([one for one in each if one[0] != "r"] for each in (raw, invoked.raw))

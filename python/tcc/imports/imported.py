@@ -71,10 +71,14 @@ class Imported(Collected):
             if number not in self.listed:
                 parts = (part.split(",") for part in text.split("\n") if part)
                 self.listed[number] = [ListStep(READ if does == "r" else WRITES, key, value) for does, key, value in parts]
-        are_lists = {one.key for each in self.listed.values() for one in each if one.does in (APPEND, LIST)}
+        are_lists, are_registers = ({key for each in self.listed.values() for does, key, _ in each if does in kinds}
+                                    for kinds in ((APPEND, LIST), (READ, WRITES)))
+        are_named = not self.stand_ins and are_lists.isdisjoint(are_registers)
         made = []
         for number, line in enumerate(self.lines):
-            mine = [self._named(line, one, one.key in are_lists) for one in self.listed.pop(number)]
+            mine = self.listed.pop(number)
+            if not are_named:
+                mine = [self._named(line, one, one.key in are_lists) for one in mine]
             made.append(ListTransaction(self.session_of[number], self.outcomes[number], line, self.begun[number], mine))
         self.texts = [""] * len(made)
         self.of_lists = Lists(made, self.session_names(), self.is_log)

@@ -48,6 +48,7 @@ import itertools
 import json
 import re
 import sys
+import tempfile
 from collections import Counter
 from typing import Any, BinaryIO, Counter as Count, Iterable, Iterator, List, Tuple
 
@@ -337,9 +338,11 @@ def run(asked: argparse.Namespace, doing: Doing) -> None:
     if asked.versions and asked.seal_every:
         raise Untold(1, "versions have no seals: what is told of them needs the whole history")
     doing.now("writes the records")
-    records = told.records(asked.seal_every) if told.of_lists is None and not asked.versions else list(told.records())
-    if asked.versions:
-        versioned = Versioned(read_history(io.StringIO("".join(records))), told.versions(), "causal", asked.two_versions, dict(told.notes(True)))
+    records: Iterable[str] = told.records(asked.seal_every)
+    if told.of_lists is not None:
+        records = spooled(records)
+    elif asked.versions:
+        versioned = Versioned(read_history(io.StringIO("".join(told.records()))), told.versions(), "causal", asked.two_versions, dict(told.notes(True)))
         records = list(versioned.records())
         told.made = {"sessions": len(versioned.observers), "transactions": versioned.made, "keys": len(versioned.marks)}
     for line in told.warnings(asked.seal_every):
@@ -361,6 +364,14 @@ def run(asked: argparse.Namespace, doing: Doing) -> None:
         doing.say("jepsen.py: " + line, sys.stderr)
     for what, times in sorted(reading.left_out.items()):
         doing.say("jepsen.py: left out: %s (%d)" % (what, times), sys.stderr)
+
+
+def spooled(records: Iterable[str]) -> Iterable[str]:
+    """Records as a file without a name has them: all are made before the first is taken."""
+    file = tempfile.TemporaryFile("w+", encoding="ascii", newline="\n")  # pylint: disable=consider-using-with
+    file.writelines(records)
+    file.seek(0)
+    return file
 
 
 class Interrupted(Exception):

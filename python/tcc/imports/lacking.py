@@ -1,6 +1,6 @@
 """Which elements a list lacks: of each session the first, and where the elements of the longest list are."""
 from bisect import bisect_right
-from typing import Callable, Dict, FrozenSet, List, NamedTuple, Tuple
+from typing import Callable, Dict, FrozenSet, List, NamedTuple, Optional, Tuple
 
 from tcc.imports.list_history import Writer
 
@@ -39,7 +39,7 @@ class Lacking:
     from where a beginning ends, and only as long as some of the rest began early enough; what nobody read, by when it began."""
 
     def __init__(self, by_session: Dict[int, Appended], begun: List[int]):
-        self.by_session, self.begun = by_session, begun
+        self.by_session, self.begun, self.texts = by_session, begun, {}  # type: Dict[int, Appended], List[int], Dict[str, str]
         self.are_rising = all(each.is_rising for each in by_session.values())
         placed: List[Tuple[int, Candidate]] = []
         self.unread: List[Candidate] = []
@@ -59,6 +59,11 @@ class Lacking:
         self.earliest = [one.begun for one in self.placed]  # of an element and those after it in the longest list
         for index in range(len(placed) - 2, -1, -1):
             self.earliest[index] = min(self.earliest[index], self.earliest[index + 1])
+
+    def text_of(self, element: str, name: str) -> str:
+        """The read of an element that lacks, by the name of its register."""
+        text = self.texts[element] = "r,%s,0" % name
+        return text
 
     def first_ones(self, length: int, latest: int) -> List[Candidate]:
         """Those that so much of the longest list lacks, and that began by then, in the order of sessions."""
@@ -94,25 +99,37 @@ class Lacking:
 
 
 class Whole:
-    """The longest list that was read of a key, and how many elements a beginning of some length has. For each element whose append
-    counts it has its session and its place there, with the first that its transaction appended."""
+    """The longest list that was read of a key, and of each of its beginnings how many elements it has, the read of it as a register, and
+    the last two transactions that appended it, each by its last element there. For each element whose append counts it has its session
+    and its place there, with the first that its transaction appended."""
 
-    def __init__(self, text: str, writers: "Dict[str, Writer]"):
-        self.counts, self.pairs, length = {0: 0}, [], 0  # type: Dict[int, int], List[Tuple[int, Tuple[int, str]]], int
+    def __init__(self, key: str, text: str, writers: "Dict[str, Writer]"):
+        self.text, self.counts, self.pairs, length = text, {0: 0}, [], 0  # type: str, Dict[int, int], List[Tuple[int, Tuple[int, str]]], int
+        self.values: List[Optional[str]] = ["r,%s,0" % key]
+        self.ends: List[Tuple[str, ...]] = [()]
         most: Dict[int, Tuple[int, str]] = {}
         self.is_rising, self.texts = True, {}  # type: bool, Dict[str, str]
         for count, element in enumerate(text.split(), 1):
             length += 1 + len(element)
             self.counts[length] = count
-            writer = writers.get(element)
+            writer, end = writers.get(element), self.ends[-1]
             if writer is None:
                 self.pairs.append((NOBODY, (0, "")))
+                self.values.append(None)
+                self.ends.append(end)
                 continue
             place = most.get(writer.session, (0, ""))[0]
             self.is_rising = self.is_rising and place <= writer.place
             if place != writer.place:
                 most[writer.session] = writer.place, element
             self.pairs.append((writer.session, most[writer.session]))
+            is_same = end[-1:] == (writer.last,)
+            self.values.append(self.values[-1] if is_same and self.values[-1] else "r,%s,%s" % (key, writer.last))
+            self.ends.append(end if is_same else (*end[-1:], writer.last))
+
+    def count_of(self, text: str) -> int:
+        """How many elements a beginning has; -1 of a list that is none."""
+        return self.counts.get(len(text), -1) if self.text.startswith(text) else -1
 
     def text_of(self, element: str, name: str) -> str:
         """The read of an element that is there, by the name of its register."""
@@ -120,7 +137,7 @@ class Whole:
         return text
 
     def last_ones(self, begin: int, end: int) -> Dict[int, Tuple[int, str]]:
-        """The last place of each session in the part between two lengths, with an element of it, where the places of each rise."""
-        found = dict(self.pairs[self.counts[begin]:self.counts[end]])
+        """The last place of each session between two counts, with an element of it, where the places of each rise."""
+        found = dict(self.pairs[begin:end])
         found.pop(NOBODY, None)
         return found

@@ -139,35 +139,38 @@ class ListHistory:
     def _trace(self) -> None:
         """Finds who appended each element, which transactions committed, and the reads."""
         for number, one in enumerate(self.transactions):
-            for index, step in enumerate(one.steps):
-                if step.does == APPEND:
-                    first = self.writers.setdefault(step.key, {}).setdefault(step.value, number)
-                    if first != number or step in one.steps[:index]:
-                        self.faults.append(Fault("Duplicate", number, index, step.value))
-                        self._twice.setdefault(step.key, set()).add(step.value)
-        for number, one in enumerate(self.transactions):
-            for step in one.steps:
-                if step.does == APPEND and step.value not in self._twice.get(step.key, ()):
-                    self._last[number, step.key] = step.value
-        shown: DefaultDict[str, Set[str]] = defaultdict(set)
-        most: Dict[str, str] = {}
-        for number, one in enumerate(self.transactions):
-            if one.outcome == OK:
-                own: DefaultDict[str, str] = defaultdict(str)
-                for index, step in enumerate(one.steps):
-                    if step.does == APPEND:
-                        own[step.key] += " " + step.value
-                    elif step.does == LIST:
-                        self.reads.append(Read(number, index, step.key, step.value, own[step.key]))
-                        before = most.get(step.key, "")
-                        if not begins(step.value, before):
-                            most[step.key] = step.value
-                            shown[step.key].update((step.value[len(before):] if begins(before, step.value) else step.value).split())
-        registers = {(each.key, each.value) for one in self.transactions if one.outcome == OK for each in one.steps if each.does == READ}
+            own: Dict[str, str] = {}
+            for index, (does, key, value) in enumerate(one.steps):
+                if does == APPEND:
+                    mine = self.writers.setdefault(key, {})
+                    if value in mine:
+                        self.faults.append(Fault("Duplicate", number, index, value))
+                        self._twice.setdefault(key, set()).add(value)
+                    else:
+                        mine[value] = number
+                    self._last[number, key] = value
+                    own[key] = own.get(key, "") + " " + value
+                elif does == LIST and one.outcome == OK:
+                    self.reads.append(Read(number, index, key, value, own.get(key, "")))
+        if self._twice:
+            self._last = {(number, key): value for number, one in enumerate(self.transactions) for does, key, value in one.steps
+                          if does == APPEND and value not in self._twice.get(key, ())}
+        has_unknown = any(one.outcome == INFO for one in self.transactions)
+        shown, registers = self._shown() if has_unknown else ({}, set())
         for one in self.transactions:
             one.committed = one.outcome == OK or one.outcome == INFO and any(
-                step.does == APPEND and step.value in shown[step.key] or step.does == WRITE and (step.key, step.value) in registers
-                for step in one.steps)
+                does == APPEND and value in shown.get(key, ()) or does == WRITE and (key, value) in registers for does, key, value in one.steps)
+
+    def _shown(self) -> Tuple[Dict[str, Set[str]], Set[Tuple[str, str]]]:
+        """The elements of each list that somebody read, and what was read of registers."""
+        shown: DefaultDict[str, Set[str]] = defaultdict(set)
+        most: Dict[str, str] = {}
+        for read in self.reads:
+            before = most.get(read.key, "")
+            if not begins(read.text, before):
+                most[read.key] = read.text
+                shown[read.key].update((read.text[len(before):] if begins(before, read.text) else read.text).split())
+        return shown, {(key, value) for one in self.transactions if one.outcome == OK for does, key, value in one.steps if does == READ}
 
     def _look(self) -> None:
         """Notes what each list shows by itself, and leaves out those that say no more than that."""
@@ -175,6 +178,9 @@ class ListHistory:
         right: DefaultDict[str, Right] = defaultdict(Right)
         for read in self.reads:
             mine = right[read.key]
+            if not read.own and begins(read.text, mine.text) and (read.number, read.key) not in self._last:
+                kept.append(read)
+                continue
             more = self._after(read, mine)
             found = None if more is not None else self._fault_of(read)
             if found:
@@ -189,7 +195,7 @@ class ListHistory:
                                 for element, number in writers.items()
                                 if self.transactions[number].committed and element not in self._twice.get(key, ())}
         for read in self.reads:
-            if len(read.others()) > len(self._longest.get(read.key, "")):
+            if len(read.text) > len(self._longest.get(read.key, "")) and len(read.others()) > len(self._longest.get(read.key, "")):
                 self._longest[read.key] = read.others()
         if self.is_log:
             for read in self.reads:

@@ -14,6 +14,8 @@ session saw it already. Of those that are missing it is the first one, and none 
 invoked after all that the reader had observed. What a list shows by itself to be wrong is found before (`list_history.Fault`).
 docs/MODEL.md has the proof.
 """
+import itertools
+from array import array
 from collections import defaultdict
 from dataclasses import dataclass, field
 from typing import DefaultDict, Dict, Iterable, Iterator, List, NamedTuple, Optional, Set, Tuple
@@ -24,6 +26,39 @@ from tcc.imports.list_history import APPEND, KINDS, OK, READ, WRITE, ListHistory
 
 OBSERVER, UNREAD, FAULTY = "o.%d", "u.%d", "f.%d"  # the sessions that no client has
 ENOUGH = 64  # letters of the end of a list, in which its last two mostly are
+
+
+class Onward:
+    """Which transactions, and which beginnings of lists, come after others: linked lists in arrays."""
+
+    def __init__(self, count: int):
+        self.first, self.to, self.next = array("l", [-1]) * count, array("l"), array("l")
+
+    def add(self, before: int, after: int) -> None:
+        self.to.append(after)
+        self.next.append(self.first[before])
+        self.first[before] = len(self.to) - 1
+
+    def node(self, before: int) -> int:
+        """One more, which comes after another one, or after none."""
+        self.first.append(-1)
+        if before >= 0:
+            self.add(before, len(self.first) - 1)
+        return len(self.first) - 1
+
+    def greatest(self, begun: List[int]) -> List[int]:
+        """The greatest of the numbers of those that each comes after; -1 where it comes after none."""
+        found, first, to, following = [-1] * len(self.first), self.first, self.to, self.next
+        for start in sorted(range(len(begun)), key=begun.__getitem__, reverse=True):
+            waiting, number = [start], begun[start]
+            while waiting:
+                edge = first[waiting.pop()]
+                while edge >= 0:
+                    if found[to[edge]] < 0:
+                        found[to[edge]] = number
+                        waiting.append(to[edge])
+                    edge = following[edge]
+        return found[:len(begun)]
 
 
 class Observed(NamedTuple):
@@ -39,52 +74,43 @@ class Lists(ListHistory):
     """A history of lists, as records: those of its transactions, and those of observers."""
 
     observers: Dict[str, Observed] = field(default_factory=dict)  # by their sessions
-    elements: Dict[str, Tuple[str, str]] = field(default_factory=dict)  # by the registers of theirs: key and element
     companions: Dict[str, str] = field(default_factory=dict)  # labels in the records that are others in the history
     recorded: List[str] = field(default_factory=list)  # of each transaction its label in the records
     longest: int = 0  # the most operations of a transaction
     made: int = 0  # the transactions of the records
-    _names: Dict[Tuple[str, str], str] = field(default_factory=dict)
+    _names: Dict[str, Dict[str, str]] = field(default_factory=dict)  # of each key its elements with a register, and the name where it isn't plain
+    _others: Dict[str, Tuple[str, str]] = field(default_factory=dict)  # by names that aren't plain: key and element
+    _named: int = 0
+    _wholes: Dict[str, Whole] = field(default_factory=dict)
     _keys: Set[str] = field(default_factory=set)
 
     def horizon(self) -> List[int]:
         """Of each transaction the greatest number of a beginning in its past: who began later isn't in it."""
         count = len(self.transactions)
-        onward: List[List[int]] = [[] for _ in range(count)]
+        onward = Onward(count)
         last: Dict[int, int] = {}
         for number, one in enumerate(self.transactions):
             if one.committed:
                 if one.session in last:
-                    onward[last[one.session]].append(number)
+                    onward.add(last[one.session], number)
                 last[one.session] = number
         ends: Dict[str, Dict[int, int]] = {}  # of each longest list, by its length so far, what represents its beginning
         for key, whole in self._longest.items():
             before, length, ends[key] = -1, 0, {}
             for element in whole.split():
-                onward.append([])
-                if before >= 0:
-                    onward[before].append(len(onward) - 1)
-                before, length = len(onward) - 1, length + 1 + len(element)
-                ends[key][length] = before
+                node, length = onward.node(before), length + 1 + len(element)
+                before = ends[key][length] = node
                 if element in self._sound.get(key, {}):
-                    onward[self._sound[key][element].number].append(before)
+                    onward.add(self._sound[key][element].number, node)
         for read in self.reads:
             mine = read.others()
             if begins(mine, self._longest.get(read.key, "")):
                 if mine:
-                    onward[ends[read.key][len(mine)]].append(read.number)
+                    onward.add(ends[read.key][len(mine)], read.number)
             else:
                 for writer in self._writers(read, mine):
-                    onward[writer.number].append(read.number)
-        found = [-1] * len(onward)
-        for first in sorted(range(count), key=lambda number: -self.transactions[number].begun):
-            waiting = [first]
-            while waiting:
-                for number in onward[waiting.pop()]:
-                    if found[number] < 0:
-                        found[number] = self.transactions[first].begun
-                        waiting.append(number)
-        return found[:count]
+                    onward.add(writer.number, read.number)
+        return onward.greatest([one.begun for one in self.transactions])
 
     def _writers(self, read: Read, text: str) -> List[Writer]:
         """Who appended the elements of a part of a list, where that counts, without the reader."""
@@ -92,24 +118,38 @@ class Lists(ListHistory):
         return [sound[one] for one in text.split() if one in sound and sound[one].number != read.number]
 
     def element_name(self, key: str, element: str) -> str:
-        """The name of the register of an element."""
-        name = self._names.get((key, element))
-        if name is None:
-            name = "%s.%s" % (key, element)
-            if len(name) > MAX_NAME_BYTES or name in self.elements or name in self._keys:
-                name = "e-%d" % len(self._names)
-                while name in self.elements or name in self._keys:
-                    name += "-"
-            self._names[key, element] = name
-            self.elements[name] = (key, element)
+        """The name of the register of an element: key and element, and where that can't be a name of its own."""
+        names = self._names.setdefault(key, {})
+        if element not in names:
+            plain = "%s.%s" % (key, element)
+            names[element] = self._other_name(key, element) if len(plain) > MAX_NAME_BYTES or plain in self._keys else ""
+            self._named += 1
+        return names[element] or "%s.%s" % (key, element)
+
+    def _other_name(self, key: str, element: str) -> str:
+        name = "e-%d" % self._named
+        while name in self._others or name in self._keys:
+            name += "-"
+        self._others[name] = key, element
         return name
+
+    def element_of(self, register: str) -> Optional[Tuple[str, str]]:
+        """The key and the element that a register of the records represents; none where it is one of the history's own."""
+        key, _, element = register.rpartition(".")
+        return (key, element) if self._names.get(key, {}).get(element) == "" else self._others.get(register)
+
+    def registers(self) -> Set[str]:
+        """The names of the registers of elements, once the records are made."""
+        return {self.element_name(key, element) for key, every in self._names.items() for element in every}
 
     def records(self, with_faults: bool = False) -> Iterator[str]:
         """The records of each transaction, and those of the observers; with faults, what is wrong by itself is an anomaly there too,
         so that nobody who looks at the answer alone takes it as right."""
-        self._keys = {step.key for one in self.transactions for step in one.steps}
+        self._keys = {key for one in self.transactions for _, key, _ in one.steps}
+        self._wholes = {key: Whole(key, self._longest.get(key, ""), writers) for key, writers in self._sound.items()}
         reads = self._presence()
         runs = self._runs()
+        self._wholes.clear()
         places: DefaultDict[int, int] = defaultdict(int)
         for number, one in enumerate(self.transactions):
             yield from self._transaction(number, one, reads[number], places)
@@ -117,44 +157,65 @@ class Lists(ListHistory):
         if with_faults:
             is_proof = [KINDS[one.kind][2] for one in self.faults]
             for index, is_wrong in enumerate(is_proof, 1):
-                name = unused(FAULTY % index, {*self.sessions, *self.observers, *self._keys, *self.elements})
+                name = self._faulty_name(FAULTY % index)
                 if is_wrong:
                     yield "{0},begin\n{0},w,{0},1\n{0},commit\n{0},begin\n{0},r,{0},0\n{0},commit\n".format(name)
                 elif not any(is_proof):
                     yield "{0},begin\n{0},r,{0},1\n{0},commit\n".format(name)
 
-    def _presence(self) -> List[Tuple[List[str], List[str], List[str]]]:
-        """Of each transaction the reads of last elements and of registers, of elements that are there, and of such as lack."""
-        every: List[Tuple[List[str], List[str], List[str]]] = [(self._registers(one), [], []) for one in self.transactions]
+    def _faulty_name(self, name: str) -> str:
+        """A name that no session and no register has."""
+        taken = {*self.sessions, *self.observers, *self._keys}
+        while name in taken or self.element_of(name):
+            name += "-"
+        return name
+
+    def _presence(self) -> List[str]:
+        """Of each transaction the reads of last elements and of registers, of elements that are there, and of such as lack: each a line, and
+        a bar between them."""
         begun = [one.begun for one in self.transactions]
         lacking = {key: Lacking(self._by_session(key), begun) for key in self._sound}
-        wholes = {key: Whole(self._longest.get(key, ""), writers) for key, writers in self._sound.items()}
         horizon = self.horizon()
         known: DefaultDict[int, Dict[int, int]] = defaultdict(dict)
         saw: Dict[Tuple[int, str], str] = {}
-        for read in self.reads:
-            one = self.transactions[read.number]
-            last, there, lacks = every[read.number]
-            value = self._last_of(read)
-            if value is not None:
-                last.append("r,%s,%s" % (read.key, value))
-            before, mine = saw.get((one.session, read.key), ""), read.others()
-            before = before if begins(before, mine) else ""
-            saw[one.session, read.key] = mine
-            if read.key not in lacking:
-                continue
-            is_beginning = begins(mine, self._longest.get(read.key, ""))
-            ours, places = wholes[read.key], known[one.session]
-            most = ours.last_ones(len(before), len(mine)) if is_beginning and ours.is_rising else self._last_ones(read, mine[len(before):])
-            for session, (place, element) in most.items():
-                if places.get(session, 0) < place and (session != one.session or place > one.place):
-                    places[session] = place
-                    there.append(ours.texts.get(element) or ours.text_of(element, self.element_name(read.key, element)))
-            latest, its = horizon[read.number], lacking[read.key]
-            for each in its.first_ones(len(mine), latest) if is_beginning else its.first_but(frozenset(read.text.split()), latest):
-                if each.number != read.number and (each.session != one.session or each.number < read.number):
-                    lacks.append("r,%s,0" % self.element_name(read.key, each.element))
-        return every
+        every: List[str] = []
+        for number, mine in itertools.groupby(self.reads, lambda read: read.number):
+            every += map(joined, ((self._registers(one), [], []) for one in self.transactions[len(every):number]))
+            one = self.transactions[number]
+            last, there, lacks = self._registers(one), [], []  # type: List[str], List[str], List[str]
+            for read in mine:
+                text, whole = read.others(), self._wholes.get(read.key)
+                count = -1 if whole is None else whole.count_of(text)
+                value = self._last_of(read, text) if whole is None or count < 0 else whole.values[count]
+                if value is not None:
+                    last.append(value)
+                before = saw.get((one.session, read.key), "")
+                before = before if begins(before, text) else ""
+                saw[one.session, read.key] = text
+                if whole is not None:
+                    there += self._there(read, text, before, count, whole, known[one.session])
+                    lacks += self._lacks(read, text, count, lacking[read.key], horizon[number])
+            every.append(joined((last, there, lacks)))
+        return every + [joined((self._registers(one), [], [])) for one in self.transactions[len(every):]]
+
+    def _there(self, read: Read, text: str, before: str, count: int, whole: Whole, places: Dict[int, int]) -> List[str]:
+        """The reads of elements that are there: of each session the last, unless the reader's session saw it or a later one."""
+        one = self.transactions[read.number]
+        is_whole = count >= 0 and whole.is_rising
+        most = whole.last_ones(whole.counts[len(before)], count) if is_whole else self._last_ones(read, text[len(before):])
+        found = []
+        for session, (place, element) in most.items():
+            if places.get(session, 0) < place and (session != one.session or place > one.place):
+                places[session] = place
+                found.append(whole.texts.get(element) or whole.text_of(element, self.element_name(read.key, element)))
+        return found
+
+    def _lacks(self, read: Read, text: str, count: int, lacking: Lacking, latest: int) -> List[str]:
+        """The reads of elements that a list lacks: of each session the first."""
+        number, session = read.number, self.transactions[read.number].session
+        every = lacking.first_ones(len(text), latest) if count >= 0 else lacking.first_but(frozenset(read.text.split()), latest)
+        return [lacking.texts.get(one.element) or lacking.text_of(one.element, self.element_name(read.key, one.element))
+                for one in every if one.number != number and (one.session != session or one.number < number)]
 
     @staticmethod
     def _registers(one: Transaction) -> List[str]:
@@ -178,17 +239,18 @@ class Lists(ListHistory):
         by: Dict[int, List[Tuple[int, int, str]]] = {}
         for element, writer in self._sound[key].items():
             by.setdefault(writer.session, []).append((writer.place, writer.number, element))
-        return {session: Appended([each[2] for each in sorted(every)], [each[1] for each in sorted(every)],
-                                  [ends.get(each[2], BEYOND) for each in sorted(every)]) for session, every in by.items()}
+        for every in by.values():
+            every.sort(key=lambda each: each[:2])  # those of a transaction stay as it appended them
+        return {session: Appended([each[2] for each in every], [each[1] for each in every], [ends.get(each[2], BEYOND) for each in every])
+                for session, every in by.items()}
 
-    def _last_of(self, read: Read) -> Optional[str]:
-        """The value of a list as a register: what the transaction of its last element appended last; none where nobody knows whose
-        that is."""
-        mine = read.others()
-        if not mine:
-            return "0"
-        writer = self._sound.get(read.key, {}).get(mine[mine.rindex(" ") + 1:])
-        return None if writer is None or writer.number == read.number else writer.last
+    def _last_of(self, read: Read, text: str) -> Optional[str]:
+        """The read of a list as a register: what the transaction of its last element appended last; none where nobody knows whose that
+        is."""
+        if not text:
+            return "r,%s,0" % read.key
+        writer = self._sound.get(read.key, {}).get(text[text.rindex(" ") + 1:])
+        return None if writer is None or writer.number == read.number else "r,%s,%s" % (read.key, writer.last)
 
     def _last_ones(self, read: Read, new: str) -> Dict[int, Tuple[int, str]]:
         """Of each session the last of its elements in a part of a list, with its place."""
@@ -200,18 +262,18 @@ class Lists(ListHistory):
                     most[writer.session] = writer.place, element
         return most
 
-    def _transaction(self, number: int, one: Transaction, reads: Tuple[List[str], List[str], List[str]], places: DefaultDict[int, int]) -> Iterator[str]:
+    def _transaction(self, number: int, one: Transaction, reads: str, places: DefaultDict[int, int]) -> Iterator[str]:
         """A transaction, its reads first; of too many operations some move to companions in its session."""
-        last, there, lacks = (list(dict.fromkeys(each)) for each in reads)
+        last, there, lacks = (each.split("\n") if each else [] for each in reads.split("|"))
         writes: List[str] = []
-        for step in one.steps:
-            if step.does == WRITE:
-                writes.append("w,%s,%s" % (step.key, step.value))
-            elif step.does == APPEND and step.value not in self._twice.get(step.key, ()):
-                if self._last[number, step.key] == step.value:
-                    writes.append("w,%s,%s" % (step.key, step.value))
-                if (step.key, step.value) in self._names:
-                    writes.append("w,%s,1" % self._names[step.key, step.value])
+        for does, key, value in one.steps:
+            if does == WRITE:
+                writes.append("w,%s,%s" % (key, value))
+            elif does == APPEND and value not in self._twice.get(key, ()):
+                if self._last[number, key] == value:
+                    writes.append("w,%s,%s" % (key, value))
+                if value in self._names.get(key, ()):
+                    writes.append("w,%s,1" % self.element_name(key, value))
         writes = list(dict.fromkeys(writes))
         before: List[str] = []
         behind: List[str] = []
@@ -256,11 +318,12 @@ class Lists(ListHistory):
         given: Set[Tuple[str, str, str]] = set()
         has_whole: Set[str] = set()
         for read in self.reads:
-            end = self._end_of(read)
-            if len(end) > 1 and self._last_of(read) == end[-1]:
-                given.add((read.key, end[0], end[1]))
-            mine, longest = read.others(), self._longest.get(read.key, "")
-            if mine and (not begins(mine, longest) or mine == longest and read.key not in has_whole):
+            mine, longest, whole = read.others(), self._longest.get(read.key, ""), self._wholes.get(read.key)
+            count = -1 if whole is None else whole.count_of(mine)
+            end, value = (self._end_of(read), self._last_of(read, mine)) if whole is None or count < 0 else (whole.ends[count], whole.values[count])
+            if len(end) > 1 and value == "r,%s,%s" % (read.key, end[-1]):
+                given.add((read.key, *end))
+            if mine and (mine == longest and read.key not in has_whole or not begins(mine, longest)):
                 if mine == longest:
                     has_whole.add(read.key)
                 chain = self._chain(read, mine)
@@ -319,7 +382,7 @@ class Lists(ListHistory):
     @property
     def counts(self) -> Dict[str, int]:
         """How large the records are that were made."""
-        return {"sessions": len(self.sessions) + len(self.observers), "transactions": self.made, "keys": len(self._keys) + len(self._names),
+        return {"sessions": len(self.sessions) + len(self.observers), "transactions": self.made, "keys": len(self._keys) + self._named,
                 "operations in a transaction": self.longest}
 
     # What the records represent.
@@ -334,6 +397,11 @@ class Lists(ListHistory):
     def is_made(self, label: str) -> bool:
         """Whether it is the transaction of an observer."""
         return label.rpartition("/")[0] in self.observers
+
+
+def joined(parts: Iterable[List[str]]) -> str:
+    """Reads of three kinds as one text, each once."""
+    return "|".join(["\n".join(dict.fromkeys(each)) for each in parts])
 
 
 def unused(name: str, taken: Set[str]) -> str:

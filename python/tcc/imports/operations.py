@@ -39,7 +39,6 @@ USUAL = re.compile(r"(?:#jepsen\.history\.Op ?)?\{(?:(?:%s)(?=[ ,}])[ ,]*)+\}" %
     once(8, OTHER % ""), once(9, r"(?(8)%s|(?!))" % (OTHER % r"(?!\8 )")))))
 # A step of its transaction: what it does, its key, and its value as digits, the items of a list, or another word.
 STEP = re.compile(r"\[:(r|w|append) (%s) (?:([1-9][0-9]{0,18})|\[([^\[\]]*)\]|(%s))\]" % (ATOM, ATOM))
-WRITE = re.compile(r"\[:(?:w|append) (%s) (%s)\]" % (ATOM, VALUE))
 
 
 class Untold(Exception):

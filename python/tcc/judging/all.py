@@ -30,16 +30,18 @@ judged; of a value that was written twice, each later write and all its reads.
 
 Records `seal` are left out. The status is 0 where nothing was found, 1 where there is an anomaly, 2 where reads are
 unresolved, 3 where nothing was found in fewer transactions than --require says, 130 where it was interrupted, and that of `tcc`
-where its input or its run is at fault.
+where its input or its run is at fault. With --versions an anomaly may be of versions and sessions alone, in which no read is wrong: a
+version of it is left out then, and the rest is judged.
 """
 import argparse
 import csv
 import gc
 import io
+import json
 import sys
 from collections import Counter
 from dataclasses import dataclass, field
-from typing import Counter as Count, Dict, Iterator, List, NamedTuple, Set, TextIO
+from typing import Counter as Count, Dict, Iterator, List, NamedTuple, Optional, Set, TextIO
 
 from tcc.common.kinds import VIOLATIONS
 from tcc.common.inputs import why_no_records
@@ -47,10 +49,13 @@ from tcc.common.notes import NoNotes, Note, read_notes
 from tcc.common.progress import INTERRUPTED, Doing, status_of
 from tcc.common.rows import History, Json, Operation, Transaction, Unfit, history_of, read_places
 from tcc.common.words import add_tcc, command_line, count, count_within
-from tcc.judging.answers import Link, cycle_of, usual_name
+from tcc.judging.answers import OUT_OF_ORDER, Link, cycle_of, usual_name
 from tcc.judging.contradicted import Survey, surveyed
 from tcc.judging.graph import Fault
+from tcc.judging.noted_versions import REFUSE, NoVersions, Versions, read_versions
 from tcc.judging.program import NoAnswer, Program, program_at
+from tcc.judging.runner import answer_of, of_history
+from tcc.judging.versions import Versioned, add_two_versions
 
 EXAMPLE = """example: session a doesn't see its own write, and b sees one write of a transaction and not the other
   $ cat records.csv
@@ -135,6 +140,12 @@ def strike(records: Records, read: Link) -> Struck:
     return Struck(read.target, read.source, read.key, value, rows)
 
 
+def in_history(answer: Json, versioned: Versioned) -> Json:
+    """An answer for records with versions as one for the history."""
+    told: Json = json.loads(of_history(answer_of(json.dumps(answer)), versioned).json())
+    return told
+
+
 def faulty_rows(records: Records, faults: List[Fault]) -> Set[int]:
     """The rows of the reads at fault; of a value that was written twice, of its later writes and all its reads."""
     twice = {(fault.operation.key, fault.operation.value) for fault in faults if fault.kind == "Duplicate"}
@@ -153,6 +164,9 @@ class Search:
     strikes_faults: bool
     doing: Doing
     required: int = 1
+    versions: Optional[Versions] = None
+    two_versions: str = REFUSE
+    left_out: int = 0  # versions that sessions contradict
     is_short: bool = False
     names: "Count[str]" = field(default_factory=Counter)
     found: int = 0
@@ -172,13 +186,20 @@ class Search:
     def answer(self) -> Json:
         """The answer for what is left."""
         self.doing.now("asks for an answer behind %d anomalies" % self.found)
-        answer = self.tcc.answer(self.records.text())
+        versioned = self.versioned()
+        answer = self.tcc.answer(self.records.text() if versioned is None else "".join(versioned.records()).encode())
         self.last = answer["answer"]
-        return answer
+        return answer if versioned is None else in_history(answer, versioned)
 
     def surveyed(self) -> Survey:
         """The contradicted reads of what is left, and what of it can't be judged."""
-        return surveyed(self.tcc, self.records.history(), self.records.text, self.doing.now)
+        found, versioned = surveyed(self.tcc, self.records.history(), self.records.text, self.doing.now), self.versioned()
+        return found if versioned is None else found._replace(contradicted=versioned.with_stale(found.contradicted))
+
+    def versioned(self) -> Optional[Versioned]:
+        """What is left with its versions, where there are some."""
+        return None if self.versions is None else Versioned(
+            self.records.history(), self.versions, self.tcc.level, self.two_versions, self.notes)
 
     def lines(self, most: int) -> Iterator[str]:
         """A line for each contradicted read, up to so many, then for each anomaly of what is left, and in the end for that."""
@@ -234,13 +255,28 @@ class Search:
         reads = sorted((strike(self.records, read) for read in reads_of(cycle)), key=lambda one: one.rows)
         name = usual_name(cycle)
         self.found += 1
+        if not reads:
+            return self.out_of_order(answer, [one for one in cycle if one.kind == "version"])
         self.struck += sum(len(one.rows) for one in reads)
         self.names[name or "no usual name"] += 1
         head = "%d: %d steps, %s" % (self.found, answer["steps"], answer["shape"])
         return "%s: %s" % (", ".join(filter(None, [head, name])), "; ".join(map(self.read_text, reads)))
 
+    def out_of_order(self, answer: Json, links: List[Link]) -> str:
+        """The line of an anomaly of sessions and versions alone; the version of the later write of each link is left out from here on."""
+        self.names[OUT_OF_ORDER] += 1
+        said = []
+        for one in links:
+            written = self.records.transactions[one.target].written(one.key)
+            if self.versions is not None and written is not None:
+                said.append("by its version %s comes before %s at %s" % (self.named(one.source), self.named(one.target), one.key))
+                self.versions = self.versions.without(one.key, written.value)
+                self.left_out += 1
+        return "%d: %d steps, %s: %s" % (self.found, answer["steps"], answer["shape"], "; ".join(said))
+
     def end(self, answer: Json) -> Iterator[str]:
         behind = " behind %d struck reads" % self.struck if self.struck else ""
+        behind += " without %d versions" % self.left_out if self.left_out else ""
         if answer["answer"] == "consistent" and not self.found and answer["transactions"] < self.required:
             self.is_short = True
             yield "nothing was judged: %d transactions, and --require %d" % (answer["transactions"], self.required)
@@ -273,6 +309,8 @@ def arguments() -> argparse.Namespace:
                      "labels are those of the whole history, rows those of the slice")
     ask.add_argument("--notes", metavar="FILE", help="annotations: node, time, index and note of each transaction; those of a slice by "
                      "the labels of the whole history")
+    ask.add_argument("--versions", metavar="FILE", help="versions of the records, lines key,value,version: reads that they contradict are listed too")
+    add_two_versions(ask)
     add_tcc(ask)
     return ask.parse_args()
 
@@ -289,7 +327,8 @@ def run(asked: argparse.Namespace, doing: Doing, out: TextIO) -> int:
         places = read_places(asked.places)
     tcc = Program(program_at(asked.tcc), asked.level, asked.large, asked.workers)
     notes = read_notes(asked.notes) if asked.notes else {}
-    search = Search(tcc, records, places, notes, asked.strike_faults, doing, asked.require)
+    versions = read_versions(asked.versions) if asked.versions else None
+    search = Search(tcc, records, places, notes, asked.strike_faults, doing, asked.require, versions, asked.two_versions)
     try:
         for line in search.lines(asked.most):
             doing.say(line, out)
@@ -305,7 +344,7 @@ def main() -> int:
     asked = arguments()
     gc.disable()  # nothing here is held in a circle, and of millions of operations the collector takes a third of the time
     return status_of("all.py", "reads the records", lambda doing: run(asked, doing, sys.stdout), "interrupted while it read the records",
-                     (NoAnswer, Unfit, NoNotes, OSError, csv.Error, ValueError), UNREAD)
+                     (NoAnswer, Unfit, NoNotes, NoVersions, OSError, csv.Error, ValueError), UNREAD)
 
 
 if __name__ == "__main__":

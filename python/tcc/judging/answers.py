@@ -12,6 +12,9 @@ LABEL = re.compile(r"init|(%s)/([1-9][0-9]*)" % NAME.pattern)
 FIELD_NAMES = {**kinds.FIELD_NAMES, "cyclic-causality": "G1c"}
 
 
+OUT_OF_ORDER = "versions out of order"
+
+
 @dataclass(frozen=True)
 class Link:
     """A link or a step of an anomaly; one that is derived has a reader and a walk."""
@@ -57,7 +60,7 @@ def link(value: Json) -> Link:
     kind, source, target = value["kind"], label(value["from"]), label(value["to"])
     if kind == "session":
         return Link(kind, source, target)
-    if kind == "reads":
+    if kind in ("reads", "version"):
         return Link(kind, source, target, key(value["key"]))
     if kind == "derived":
         walk = tuple(map(link, value["walk"]))
@@ -141,7 +144,7 @@ def usual_name(cycle: List[Link]) -> Optional[str]:
     """The usual name of an anomaly, where it has one."""
     links = [one for one in cycle if one.kind == "derived"]
     if not links:
-        return "circular reads"
+        return OUT_OF_ORDER if any(one.kind == "version" for one in cycle) else "circular reads"
     if len(links) == 1:
         return name_of_reason(links[0])
     is_divergent = len(links) == 2 and session_of(links[0].reader) != session_of(links[1].reader)

@@ -52,6 +52,15 @@ class Versions(Dict[str, Dict[str, int]]):
             self._places = {one[:2]: place for place, one in enumerate(self.noted)}
         return self._places[key, value]
 
+    def without(self, key: str, value: str) -> "Versions":
+        """The versions of all other values."""
+        found = Versions()
+        for one, other, where in self.noted:
+            if (one, other) != (key, value):
+                found.note(one, other, self[one][other], where)
+        found.doubts = [one._replace(before=one.before - (one.before > self.place(key, value))) for one in self.doubts]
+        return found
+
     def until(self, count: int) -> "Versions":
         """The versions of the first values."""
         found = Versions()

@@ -7,12 +7,13 @@
 import json
 import os
 import subprocess
-from dataclasses import dataclass, fields
+from dataclasses import asdict, dataclass, fields
 from typing import Any, Callable, Dict, Iterator, List, Mapping, Optional, Sequence, Tuple, Union
 
 from tcc.common.appended import Path
 from tcc.common.inputs import why_no_records
 from tcc.common.kinds import VIOLATIONS
+from tcc.common.rows import Json
 from tcc.judging.answers import Link
 from tcc.judging.noted_versions import NoVersions
 from tcc.judging.program import NoAnswer, found_program, plain_end, wanted_program
@@ -36,6 +37,15 @@ class Step:
     key: Optional[str] = None
     reader: Optional[str] = None
     walk: Tuple["Step", ...] = ()
+
+    def told(self) -> Json:
+        """The link as JSON has it."""
+        found: Json = {"kind": self.kind, "from": self.source, "to": self.target}
+        if self.key is not None:
+            found["key"] = self.key
+        if self.reader is not None:
+            found.update(reader=self.reader, walk=[one.told() for one in self.walk])
+        return found
 
     def lines(self) -> Iterator[str]:
         """The line of the link as `tcc` prints it, and below it those of its walk, and the read that it contradicts."""
@@ -80,6 +90,10 @@ class Consistent:
         order = "order: %s\n" % " ".join(self.order) if self.order else ""
         return "consistent: %d transactions, %d sessions\n%s" % (self.transactions, self.sessions, order)
 
+    def json(self) -> str:
+        """The answer as `tcc explain --json` prints it."""
+        return line_of({"answer": "consistent", "order": list(self.order), "sessions": self.sessions, "transactions": self.transactions})
+
 
 @dataclass(frozen=True)
 class Anomaly:
@@ -94,6 +108,10 @@ class Anomaly:
         """The answer as `tcc` prints it."""
         head = "anomaly: %d steps, %s" % (self.steps, self.shape)
         return "".join(line + "\n" for line in (head, *(line for one in self.cycle for line in one.lines())))
+
+    def json(self) -> str:
+        """The answer as `tcc explain --json` prints it; with versions a link may have the kind `version`."""
+        return line_of({"answer": "anomaly", "cycle": [one.told() for one in self.cycle], "shape": self.shape, "steps": self.steps})
 
 
 @dataclass(frozen=True)
@@ -110,8 +128,17 @@ class Unresolved:
         """The answer as `tcc` prints it."""
         return "".join(line + "\n" for line in ("unresolved: %d faults" % len(self.faults), *(one.line() for one in self.faults)))
 
+    def json(self) -> str:
+        """The answer as `tcc explain --json` prints it."""
+        return line_of({"answer": "unresolved", "faults": [asdict(one) for one in self.faults]})
+
 
 Answer = Union[Consistent, Anomaly, Unresolved]
+
+
+def line_of(told: Json) -> str:
+    """An object as `tcc` prints it."""
+    return json.dumps(told, separators=(",", ":"), sort_keys=True) + "\n"
 
 
 def program(path: Optional[Path] = None) -> str:
@@ -180,16 +207,6 @@ def shape_of(links: Sequence[Link]) -> str:
     if derived:
         return "conflict-cycle"
     return "versions-out-of-order" if any(one.kind == "version" for one in links) else "cyclic-causality"
-
-
-def contradicted(records: Path, *, level: str = "causal", large: bool = True, seconds: Optional[float] = None,
-                 tcc: Optional[Path] = None) -> int:
-    """How many reads of a file of records are contradicted by what their sessions knew, as `tcc survey` counts them; none where it
-    can't list them all."""
-    words = [program(tcc), "survey", "--json", "--level", level, *(["--large"] if large else []), os.fspath(records)]
-    lines = run(words, seconds).stdout.splitlines()
-    told = json.loads(lines[-1]) if lines else {}
-    return int(told["contradicted"]) if told.get("answer") == "survey" else 0
 
 
 def run(words: List[str], seconds: Optional[float], begun: Optional[Begun] = None) -> "subprocess.CompletedProcess[str]":

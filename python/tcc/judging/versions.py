@@ -233,7 +233,7 @@ class Versioned:
                 found += [*real, Link("version", last, one.target, one.key)]
             elif one.key in self.marks:
                 key = self.marks[one.key]
-                read = next(each for each in self.stale if each.reader == one.reader and each.operation.key == key)
+                read = next(each for each in self.stale if (each.reader, each.operation.key, each.writer) == (one.reader, key, one.source))
                 if read.source != "init":
                     found = [each for each in found if (each.source, each.target) != ("init", one.source)]
                     found.append(Link("version", read.source, one.source, key))
@@ -241,6 +241,12 @@ class Versioned:
             else:
                 found.append(one)
         return found
+
+    def with_stale(self, listed: List[Contradicted]) -> List[Contradicted]:
+        """The contradicted reads, and beside them those that are by versions alone; each read once, by rows."""
+        known = {(one.reader, one.operation.row) for one in listed}
+        more = [one for one in self.stale if (one.reader, one.operation.row) not in known]
+        return sorted([*listed, *more], key=lambda one: one.operation.row)
 
     def is_plain(self, one: Contradicted) -> bool:
         """Whether a read is contradicted without versions too."""
@@ -263,14 +269,19 @@ def add_two_versions(ask: argparse.ArgumentParser) -> None:
                      "which is the default, or only by the versions that were noted before, or without versions")
 
 
-def write_versioned(records: Path, versions: Path, out: Path, level: str = "causal", doubtful: str = REFUSE,
-                    notes: Optional[Path] = None) -> Versioned:
-    """Writes the history with versions."""
+def versioned_of(records: Path, versions: Path, level: str = "causal", doubtful: str = REFUSE, notes: Optional[Path] = None) -> Versioned:
+    """The history of a file of records, with versions."""
     with open_records(os.fspath(records)) as file:
         history = read_history(file)
     if history.wrong_row is not None:
         raise NoVersions("%s, row %d is no record" % (os.fspath(records), history.wrong_row))
-    told = Versioned(history, read_versions(versions), level, doubtful, read_notes(notes) if notes else {})
+    return Versioned(history, read_versions(versions), level, doubtful, read_notes(notes) if notes else {})
+
+
+def write_versioned(records: Path, versions: Path, out: Path, level: str = "causal", doubtful: str = REFUSE,
+                    notes: Optional[Path] = None) -> Versioned:
+    """Writes the history with versions."""
+    told = versioned_of(records, versions, level, doubtful, notes)
     with written_whole(out) as file:
         file.writelines(told.records())
     return told

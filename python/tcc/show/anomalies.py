@@ -4,11 +4,11 @@ from typing import Counter as Count, Dict, Iterable, Iterator, List, Optional
 
 from tcc.common.kinds import FAULTS, VIOLATIONS
 from tcc.imports.list_history import KINDS as LIST_FAULTS
-from tcc.judging.answers import FIELD_NAMES, Link, usual_name
+from tcc.judging.answers import FIELD_NAMES, OUT_OF_ORDER, Link, usual_name
 from tcc.judging.contradicted import cycle_of_read
 from tcc.judging.graph import Fault
 from tcc.record.known import hint_of_pending
-from tcc.show.findings import ABOUT, DIVERGENT, OUT_OF_ORDER, Findings, faults_of
+from tcc.show.findings import ABOUT, DIVERGENT, Findings, faults_of
 from tcc.show.lanes import Size, picture
 from tcc.show.list_terms import ListTerms
 from tcc.show.page import MOST_ROWS, both, capital, counts, many, number, sorted_counts, text
@@ -110,24 +110,17 @@ def shape_name(told: Findings) -> str:
     field_name = " (%s)" % FIELD_NAMES[shape] if shape in FIELD_NAMES else ""
     if isinstance(told.terms, ListTerms):
         return told.terms.head(told.cycle) + field_name
-    name = name_of(told.cycle)
+    name = usual_name(told.cycle)
     if any(one.kind == "version" for one in told.cycle):
         return name if name == OUT_OF_ORDER else (name or DIVERGENT) + ", by versions"
     return (name + ", " if name else "") + shape + field_name
-
-
-def name_of(cycle: List[Link]) -> Optional[str]:
-    """The usual name of an anomaly, where it has one."""
-    if any(one.kind == "version" for one in cycle) and all(one.kind != "derived" for one in cycle):
-        return OUT_OF_ORDER
-    return usual_name(cycle)
 
 
 def anomalies(told: Findings, examples: Examples) -> Iterator[str]:
     """The answer's anomaly, and one of each other name."""
     shown = None
     if told.verdict == "anomaly":
-        shown = told.terms.name(told.cycle) if isinstance(told.terms, ListTerms) else name_of(told.cycle)
+        shown = told.terms.name(told.cycle) if isinstance(told.terms, ListTerms) else usual_name(told.cycle)
         steps = steps_of(told.cycle)
         yield "<h2>%s: %s</h2>" % ("The least anomaly" if told.lists is None and not told.versioned else "An anomaly", text(shape_name(told)))
         if told.lists is not None:

@@ -10,7 +10,7 @@ from tcc.common.rows import History, Json
 from tcc.imports.imported import Imported
 from tcc.imports.list_history import KINDS as LIST_FAULTS
 from tcc.imports.lists import Lists
-from tcc.judging.answers import Link, place, session_of
+from tcc.judging.answers import OUT_OF_ORDER, Link, place, session_of
 from tcc.judging.contradicted import Contradicted, Survey
 from tcc.judging.graph import Fault, Graph
 from tcc.judging.program import Program
@@ -18,7 +18,7 @@ from tcc.judging.versions import Versioned
 from tcc.show.list_terms import ABOUT as ABOUT_LISTS, ListTerms, Shown
 from tcc.show.terms import ImportedTerms, Terms
 
-OUT_OF_ORDER, DIVERGENT = "versions out of order", "divergent writes"
+DIVERGENT = "divergent writes"
 # What each usual name means, of reads and of lists.
 ABOUT = {
     "read your writes": "a session didn't see what it wrote itself",

@@ -164,9 +164,7 @@ def list_contradicted(told: Findings, work: Work) -> None:
     """Lists every contradicted read, and beside them those that are by versions."""
     list_plainly(told, work)
     if told.versioned:
-        listed = {(one.reader, one.operation.row) for one in told.found.contradicted}
-        more = [one for one in told.versioned.stale if (one.reader, one.operation.row) not in listed]
-        told.found = told.found._replace(contradicted=sorted([*told.found.contradicted, *more], key=lambda one: one.operation.row))
+        told.found = told.found._replace(contradicted=told.versioned.with_stale(told.found.contradicted))
 
 
 def list_plainly(told: Findings, work: Work) -> None:

@@ -47,13 +47,12 @@ class ListTerms(ImportedTerms):
 
     def list_key(self, register: str) -> str:
         """The list that a register of the records is of."""
-        return self.lists.elements[register][0] if register in self.lists.elements else register
+        element = self.lists.element_of(register)
+        return element[0] if element else register
 
     def key(self, register: str) -> str:
-        if register in self.lists.elements:
-            key, element = self.lists.elements[register]
-            return "%s in %s" % (self.element(element), super().key(key))
-        return super().key(register)
+        key, element = self.lists.element_of(register) or (register, "")
+        return "%s in %s" % (self.element(element), super().key(key)) if element else super().key(register)
 
     def steps(self, label: str) -> List[Step]:
         return self.lists.transactions[self.numbers[label]].steps
@@ -90,9 +89,8 @@ class ListTerms(ImportedTerms):
 
     def of_link(self, one: Link) -> str:
         """The element by which a link holds: that of its register, or what the source of a link appended last to the list."""
-        if one.key in self.lists.elements:
-            return self.lists.elements[one.key][1]
-        return self.appended(one.source, one.key)
+        element = self.lists.element_of(one.key)
+        return element[1] if element else self.appended(one.source, one.key)
 
     # What the records represent.
 
@@ -241,7 +239,7 @@ class ListTerms(ImportedTerms):
     def operations(self, label: str, keys: Iterable[str]) -> Tuple[List[str], int]:
         every, asked = self.steps(label), list(keys)
         wanted = {self.list_key(key) for key in asked}
-        about = [self.lists.elements[key][1] for key in asked if key in self.lists.elements]
+        about = [one[1] for one in map(self.lists.element_of, asked) if one]
         shown = [one for one in every if one.key in wanted][:MOST_OPERATIONS]
         return [self.operation(one, about) for one in shown], len(every) - len(shown)
 

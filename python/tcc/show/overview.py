@@ -2,7 +2,7 @@
 import re
 from typing import Dict, Iterator, List, Tuple
 
-from tcc.common.notes import Note
+from tcc.common.notes import Note, is_time
 from tcc.judging.answers import session_of
 from tcc.judging.contradicted import Contradicted
 from tcc.show.chart import Course, Span, chart
@@ -74,14 +74,6 @@ def first_of(told: Findings) -> str:
     first = min(told.contradicted, key=when)
     by = "by time: %.3f s, " % when(first)[0] if is_by_time else "by %s: " % ("line" if told.lists is not None else "row")
     return "%s%s, in %s" % (by, told.terms.where(first.reader, first.operation.row), first.reader)
-
-
-def is_time(word: str) -> bool:
-    try:
-        float(word)
-    except ValueError:
-        return False
-    return True
 
 
 def summary(told: Findings) -> str:

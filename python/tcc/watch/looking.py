@@ -18,6 +18,7 @@ from tcc.common.appended import NoRecord, Path
 from tcc.common.progress import INTERRUPTED
 from tcc.common.whole import written_whole
 from tcc.common.words import Arguments
+from tcc.judging.noted_versions import NoVersions
 from tcc.judging.program import NoAnswer
 from tcc.judging.runner import ANOMALY, UNRESOLVED, Anomaly, Answer, Consistent, explain
 from tcc.record.known import PENDING, SEAL, Known, Pair, Place, lines_of, text_of
@@ -138,12 +139,15 @@ def snapshot(sources: Sequence[Source], path: Path) -> None:
 
 
 def look(sources: Sequence[Source], *, level: str = "causal", large: bool = True, workers: int = 1, seconds: Optional[float] = None,
-         tcc: Optional[Path] = None, begun: Optional[Callable[[Any], None]] = None) -> Answer:
-    """The answer for what was recorded by now, of all of these."""
+         tcc: Optional[Path] = None, begun: Optional[Callable[[Any], None]] = None, versions: Sequence[Path] = ()) -> Answer:
+    """The answer for what was recorded by now, of all of these; with files of versions, by those that were noted."""
     with tempfile.TemporaryDirectory(prefix="tcc-look-") as folder:
-        path = os.path.join(folder, "records.csv")
+        path, beside = os.path.join(folder, "records.csv"), os.path.join(folder, "versions.csv") if versions else None
         snapshot(sources, path)
-        return explain(path, level=level, large=large, workers=workers, require=0, seconds=seconds, tcc=tcc, begun=begun)
+        if beside is not None:
+            with open(beside, "wb") as out:
+                out.writelines(line for one in versions for line in lines_of(one) if line.endswith(b"\n"))
+        return explain(path, level=level, large=large, workers=workers, require=0, seconds=seconds, tcc=tcc, begun=begun, versions=beside)
 
 
 @dataclass(frozen=True)
@@ -291,6 +295,8 @@ def main() -> int:
                                   "is under way counts as of unknown outcome.")
     ask.add_argument("records", nargs="+", metavar="RECORDS", help="the files that they record into")
     ask.add_argument("--level", choices=("causal", "atomic"), default="causal", help="by default causal")
+    ask.add_argument("--versions", metavar="FILE", action="append", default=[], help="judges with the versions that were noted there; may be said "
+                     "again, as where several recorders have a file each")
     ask.add_argument("-o", "--output", metavar="FILE", help="writes the history there, and asks for no answer")
     ask.add_argument("--tcc", metavar="PATH", help="the program, by default $TCC, or else the one on the path")
     asked = ask.parse_args()
@@ -298,10 +304,10 @@ def main() -> int:
         if asked.output:
             snapshot(asked.records, asked.output)
             return 0
-        answer = look(asked.records, level=asked.level, tcc=asked.tcc)
+        answer = look(asked.records, level=asked.level, tcc=asked.tcc, versions=asked.versions)
     except NoAnswer as error:
         print("tcc-look: %s" % error, file=sys.stderr)
-        return error.status or NO_PROGRAM
+        return NOT_READ if isinstance(error.__cause__, NoVersions) else error.status or NO_PROGRAM
     except (NoRecord, OSError) as error:
         print("tcc-look: %s" % error, file=sys.stderr)
         return NOT_READ
