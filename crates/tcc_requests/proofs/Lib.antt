@@ -1,0 +1,5 @@
+mod Digits
+mod Reading
+mod Turning
+mod WorkedReplies
+mod WorkedRequests
