@@ -4,6 +4,7 @@
 //! Needs: the levels (`tcc_graph`).
 //! Must hold: what is taken from the stream is what a definition says of its bytes, and a request that is refused leaves the stream at the
 //! next one.
+//! Kept for callers: `next_turn`, `refusal_reply`, `reply_text`.
 #![tactic(auto)]
 
 mod body;
