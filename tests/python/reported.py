@@ -1,6 +1,7 @@
 """What a page says of a run: the first contradicted read, what happened meanwhile, the picture of a slice, charts and tables, and which
 limits a history needs. Beside these, names that two sessions by node could have in common, how much a client does, which program is run
 and how its status is passed on."""
+import html
 import io
 import json
 import os
@@ -51,6 +52,31 @@ def first() -> Iterator[Outcome]:
     yield differs("the first one by time", "by time: 2.500 s, row 11, in a/2", first_of(told))
     told.notes = {"a/2": Note(time="2.5"), "b/2": Note(node="n1")}
     yield differs("the first one where one has no time", "by row: row 8, in b/2", first_of(told))
+
+
+def as_told(folder: pathlib.Path) -> Iterator[Outcome]:
+    """The operations of the transactions that are shown, as the history has them: by the lines of their invokes and of what ended them; a long
+    one is cut, and of a history in one line, or of records, there are none."""
+    from tcc.common.progress import Doing
+    from tcc.imports.imported import Imported
+    from tcc.imports.jepsen import Reading, imported
+    from tcc.show.operations import MOST_LETTERS, operations
+    one = '{:type :%s, :f :txn, :value [[:%s x %s]], :process %d}'
+    ops = [one % ("invoke", "w", 1, 0), one % ("invoke", "w", 2, 1), one % ("ok", "w", 2, 1), one % ("ok", "w", 1, 0), one % ("ok", "r", 1, 1),
+           "{:type :ok, :f :txn, :value [[:w y 1] [:r x %s]], :process 2, :note \"%s\"}" % (2, "o" * MOST_LETTERS)]
+    for about, text, wanted in (
+            ("a history", "\n".join(ops) + "\n", ["p0/1", "line 1: " + ops[0], "line 4: " + ops[3], "p1/2", "line 5: " + ops[4], "p2/1", "line 6: " + ops[5][:MOST_LETTERS] + " .."]),
+            ("a history in one line", "[%s]" % " ".join(ops[1:4:2]), [])):
+        path = folder / "told.edn"
+        path.write_text(text)
+        with open(path, "rb") as file:
+            read = imported(Reading(file, Imported({"null"}), Doing("reads"), "told.edn"), True)
+        told = findings("", imported=read, path=str(path))
+        told.notes = dict(read.notes(False))
+        page = "".join(operations(told, ["init", "p0/1", "p1/2", "p2/1"]))
+        got = [html.unescape(line) for line in re.findall(r"(?<=<dt>)[^<]*|(?<=<pre>)[^<]*", page)]
+        yield differs("operations as %s has them" % about, "\n".join(wanted), "\n".join(got))
+    yield differs("operations of records", "", "".join(operations(findings(STALE), ["a/1"])))
 
 
 def meanwhile() -> Iterator[Outcome]:
@@ -219,5 +245,5 @@ def no_records(folder: pathlib.Path) -> Iterator[Outcome]:
 
 
 def outcomes(folder: pathlib.Path) -> Iterator[Outcome]:
-    for part in (first(), meanwhile(), sliced(folder), limits(), drawn(), programs(), in_full(folder), long_names(folder), pending(folder), no_records(folder)):
+    for part in (first(), as_told(folder), meanwhile(), sliced(folder), limits(), drawn(), programs(), in_full(folder), long_names(folder), pending(folder), no_records(folder)):
         yield from part

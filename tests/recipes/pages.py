@@ -205,7 +205,9 @@ HISTORIES: Dict[str, Tuple[str, int, Tuple[str, ...], int]] = {
     "intermediate": ("examples/intermediate-read.csv", 1, ("intermediate read (G1b)",), 2),
     "circle": ("examples/causality-cycle.csv", 1, ("cyclic-causality (G1c)", "circular reads"), 2),
     "odd names": (ODD, 1, ("&lt;script&gt;alert(1)&lt;/script&gt;", "&lt;b&gt;n1", "start-&lt;i&gt;", "4.000 s", "index 4",
-                           "p0 wrote &lt;script&gt;alert(1)&lt;/script&gt; = 5 in p0/1 and read &lt;script&gt;alert(1)&lt;/script&gt; = nil in p0/2 (index 4)."), 3),
+                           "p0 wrote &lt;script&gt;alert(1)&lt;/script&gt; = 5 in p0/1 and read &lt;script&gt;alert(1)&lt;/script&gt; = nil in p0/2 (index 4).",
+                           "<dt>p0/1</dt><dd><pre>line 2: {:type :invoke, :f :txn, :value [[:w &quot;&lt;script&gt;",
+                           "<dt>p0/2</dt><dd><pre>line 6: {:type :ok, :f", "<code>python3 -m tcc.recheck records.csv certificate.txt</code>"), 3),
 }
 
 

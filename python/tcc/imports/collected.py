@@ -33,7 +33,7 @@ class Waiting(NamedTuple):
 
     line: int
     raw: Raw
-    index: Optional[int]
+    index_told: Optional[int]
 
 
 @dataclass(frozen=True)

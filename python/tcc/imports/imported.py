@@ -36,7 +36,7 @@ class Imported(Collected):
     def finish(self, may_list: bool) -> None:
         """Takes what nothing followed as of unknown outcome, settles which transactions committed, and all names."""
         for process, one in list(self._waiting.items()):
-            self._end(one.line, INFO, process, None, one.index, one, None, None)
+            self._end(one.line, INFO, process, None, one.index_told, one, None, None)
         self._waiting.clear()
         if self.wrong_write is not None:
             raise self.wrong_write

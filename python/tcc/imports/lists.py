@@ -15,50 +15,17 @@ invoked after all that the reader had observed. What a list shows by itself to b
 docs/MODEL.md has the proof.
 """
 import itertools
-from array import array
 from collections import defaultdict
 from dataclasses import dataclass, field
-from typing import DefaultDict, Dict, Iterable, Iterator, List, NamedTuple, Optional, Set, Tuple
+from typing import DefaultDict, Dict, Iterable, Iterator, List, NamedTuple, Optional, Sequence, Set, Tuple
 
 from tcc.common.limits import MAX_NAME_BYTES, MAX_OPERATIONS
 from tcc.imports.lacking import BEYOND, Appended, Lacking, Whole
 from tcc.imports.list_history import APPEND, KINDS, OK, READ, WRITE, ListHistory, Read, Transaction, Writer, begins, end_of
+from tcc.imports.onward import Onward
 
 OBSERVER, UNREAD, FAULTY = "o.%d", "u.%d", "f.%d"  # the sessions that no client has
 ENOUGH = 64  # letters of the end of a list, in which its last two mostly are
-
-
-class Onward:
-    """Which transactions, and which beginnings of lists, come after others: linked lists in arrays."""
-
-    def __init__(self, count: int):
-        self.first, self.to, self.next = array("l", [-1]) * count, array("l"), array("l")
-
-    def add(self, before: int, after: int) -> None:
-        self.to.append(after)
-        self.next.append(self.first[before])
-        self.first[before] = len(self.to) - 1
-
-    def node(self, before: int) -> int:
-        """One more, which comes after another one, or after none."""
-        self.first.append(-1)
-        if before >= 0:
-            self.add(before, len(self.first) - 1)
-        return len(self.first) - 1
-
-    def greatest(self, begun: List[int]) -> List[int]:
-        """The greatest of the numbers of those that each comes after; -1 where it comes after none."""
-        found, first, to, following = [-1] * len(self.first), self.first, self.to, self.next
-        for start in sorted(range(len(begun)), key=begun.__getitem__, reverse=True):
-            waiting, number = [start], begun[start]
-            while waiting:
-                edge = first[waiting.pop()]
-                while edge >= 0:
-                    if found[to[edge]] < 0:
-                        found[to[edge]] = number
-                        waiting.append(to[edge])
-                    edge = following[edge]
-        return found[:len(begun)]
 
 
 class Observed(NamedTuple):
@@ -180,7 +147,7 @@ class Lists(ListHistory):
         saw: Dict[Tuple[int, str], str] = {}
         every: List[str] = []
         for number, mine in itertools.groupby(self.reads, lambda read: read.number):
-            every += map(joined, ((self._registers(one), [], []) for one in self.transactions[len(every):number]))
+            every += [joined(self._registers(one)) for one in self.transactions[len(every):number]]
             one = self.transactions[number]
             last, there, lacks = self._registers(one), [], []  # type: List[str], List[str], List[str]
             for read in mine:
@@ -195,8 +162,8 @@ class Lists(ListHistory):
                 if whole is not None:
                     there += self._there(read, text, before, count, whole, known[one.session])
                     lacks += self._lacks(read, text, count, lacking[read.key], horizon[number])
-            every.append(joined((last, there, lacks)))
-        return every + [joined((self._registers(one), [], [])) for one in self.transactions[len(every):]]
+            every.append(joined(last, there, lacks))
+        return every + [joined(self._registers(one)) for one in self.transactions[len(every):]]
 
     def _there(self, read: Read, text: str, before: str, count: int, whole: Whole, places: Dict[int, int]) -> List[str]:
         """The reads of elements that are there: of each session the last, unless the reader's session saw it or a later one."""
@@ -318,11 +285,11 @@ class Lists(ListHistory):
         given: Set[Tuple[str, str, str]] = set()
         has_whole: Set[str] = set()
         for read in self.reads:
-            mine, longest, whole = read.others(), self._longest.get(read.key, ""), self._wholes.get(read.key)
-            count = -1 if whole is None else whole.count_of(mine)
-            end, value = (self._end_of(read), self._last_of(read, mine)) if whole is None or count < 0 else (whole.ends[count], whole.values[count])
+            mine, longest, ours = read.others(), self._longest.get(read.key, ""), self._wholes.get(read.key)
+            count = -1 if ours is None else ours.count_of(mine)
+            end, value = (self._end_of(read), self._last_of(read, mine)) if ours is None or count < 0 else (ours.ends[count], ours.values[count])
             if len(end) > 1 and value == "r,%s,%s" % (read.key, end[-1]):
-                given.add((read.key, *end))
+                given.add((read.key, end[0], end[1]))
             if mine and (mine == longest and read.key not in has_whole or not begins(mine, longest)):
                 if mine == longest:
                     has_whole.add(read.key)
@@ -399,9 +366,9 @@ class Lists(ListHistory):
         return label.rpartition("/")[0] in self.observers
 
 
-def joined(parts: Iterable[List[str]]) -> str:
+def joined(last: List[str], there: Sequence[str] = (), lacks: Sequence[str] = ()) -> str:
     """Reads of three kinds as one text, each once."""
-    return "|".join(["\n".join(dict.fromkeys(each)) for each in parts])
+    return "|".join(["\n".join(dict.fromkeys(each)) for each in (last, there, lacks)])
 
 
 def unused(name: str, taken: Set[str]) -> str:

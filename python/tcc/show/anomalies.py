@@ -32,10 +32,12 @@ class Examples:
 
     def __init__(self, told: Findings):
         self.told, self.count = told, 0
+        self.labels: Dict[str, None] = {}  # the transactions that are shown, in their order
 
     def example(self, scene: Scene, says: Iterable[str], about: str, more: str = "") -> Iterator[str]:
         """A picture with what it says, and its links as a list."""
         self.count += 1
+        self.labels.update(dict.fromkeys(scene.labels()))
         name = "e%d" % self.count
         yield '<section class="example">'
         for one in says:

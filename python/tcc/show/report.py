@@ -33,6 +33,7 @@ from tcc.record.sessions import WAYS
 from tcc.show.anomalies import Examples, anomalies, not_judged
 from tcc.show.findings import Findings
 from tcc.show.gathering import Work, gathered
+from tcc.show.operations import operations
 from tcc.show.overview import how_often, summary, verdict, what_reads, where
 from tcc.show.page import counted, many, number, page, text
 
@@ -68,6 +69,8 @@ def certificate(told: Findings) -> Iterator[str]:
         yield "<p>\u2713 <code>%s</code>: <code>tcc check</code> found %s %s.</p>" % (text(told.check), by, text(claim))
     else:
         yield "<p>\u2717 <code>%s</code>: <code>tcc check</code> did <strong>not</strong> accept the certificate.</p>" % text(told.check)
+    yield ("<p>A second opinion, which shares nothing with <code>tcc</code>: <code>python3 -m tcc.recheck%s %s certificate.txt</code>, with the files that "
+           "<code>--keep FOLDER</code> keeps.</p>" % (" --large" if told.tcc.is_large else "", told.judged))
 
 
 def made_by(told: Findings) -> Iterator[str]:
@@ -96,6 +99,7 @@ def body(told: Findings) -> Iterator[str]:
     yield from how_often(told)
     yield from anomalies(told, examples)
     yield from not_judged(told, examples)
+    yield from operations(told, examples.labels)
     yield from certificate(told)
     yield from made_by(told)
     yield "</main><footer>p0/3 is the third transaction of session p0, aborted ones counted; init wrote nil, the initial value, at every key.</footer>"
