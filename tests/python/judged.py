@@ -235,6 +235,8 @@ def asserted(tcc: str) -> Iterator[Outcome]:
     """`assert_causal` gives the answer for a history that is consistent, and else says what is wrong, with its records."""
     from tcc import assert_causal
     yield differs("a history that is kept", 2, assert_causal(KEPT, tcc=tcc).transactions)
+    many = "".join("s{0},begin\ns{0},w,x,{1}\ns{0},commit\n".format(one, one + 1) for one in range(65))
+    yield differs("one of more sessions than a small one has", 65, assert_causal(many, tcc=tcc).sessions)
     for about, records, wanted in (("stale", STALE, "the store broke its promise\nanomaly: 3 steps, stale-initial-read"),
                                    ("untraced", THIN, "reads can't be traced, so nothing was judged\nunresolved: 1 faults"),
                                    ("wrong", "a,q\n", "nothing was judged: tcc ended with 3")):

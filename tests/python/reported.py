@@ -12,7 +12,7 @@ import sys
 from typing import Iterator
 
 from counted import Outcome
-from helpers import differs
+from helpers import differs, run
 
 # Of each session the second transaction doesn't see its first; that of b comes first.
 STALE = ("b,begin\nb,w,x,1\nb,commit\na,begin\na,w,y,2\na,commit\nb,begin\nb,r,x,0\nb,commit\n"
@@ -221,7 +221,7 @@ def no_records(folder: pathlib.Path) -> Iterator[Outcome]:
     what `tcc` says in JSON in the place of an answer is shown in words."""
     from tcc import NoAnswer, explain
     from tcc.common.inputs import why_no_records
-    from tcc.judging.program import plain_end
+    from tcc.judging.program import plain_end, why_none
     for name, content in (("history.edn", b"{:type :ok, :process 0, :f :txn, :value []}\n"), ("history.json", b'[{"type":"ok"}]'),
                           ("records.csv.gz", b"\x1f\x8b\x08"), ("history.txt", b"0 :invoke :txn [[:r 1 nil]]\n"), ("records.zip", b"PK\x03\x04")):
         (folder / name).write_bytes(content)
@@ -229,12 +229,12 @@ def no_records(folder: pathlib.Path) -> Iterator[Outcome]:
                           (folder / "history.json", "tcc-report %s a page" % (folder / "history.json")), (folder / "records.csv.gz", "gunzip it first"),
                           (folder / "history.txt", "history.edn beside it is the history"), (folder / "records.zip", "it is a zip archive: unpack it first"),
                           (folder, "is a folder: tcc-join -o records.csv %s/*.csv makes one history" % folder),
-                          ("a,begin\na,commit\n", "a text, and no path")):
+                          ("a,begin\na,commit\n", "a text, and no path"), (b"a,begin\n", "judge(..), which takes them in memory")):
         try:
             said = str(explain(given, tcc=sys.executable))
         except NoAnswer as error:
             said = str(error)
-        yield "what %s is" % os.path.basename(given).split("\n")[0], None if wanted in said else said
+        yield "what %r is" % given, None if wanted in said else said
     pipe = folder / "pipe"
     os.mkfifo(pipe)
     yield differs("a pipe, which nobody reads here", None, why_no_records(pipe))
@@ -242,8 +242,30 @@ def no_records(folder: pathlib.Path) -> Iterator[Outcome]:
                          ('{"answer":"row","kind":"Unfinished","row":2,"session":"a"}', "row 2: Unfinished a"), ('{"answer":"memory"}', "memory"),
                          ("tcc: what", "tcc: what"), ("", ""), ("[1]", "[1]")):
         yield differs("in words, %s" % line, wanted, plain_end(line))
+    row = '{"answer":"row","kind":"FieldCount","row":2}'
+    for line, errors, said in ((row, "row 2: \"a\": expected a record\n", ["row 2: \"a\": expected a record"]), (row, "", ["row 2: FieldCount"]),
+                               ("device", "none.csv: No such file\ndevice\n", ["none.csv: No such file"]), ("device", "device\n", ["device"]),
+                               ('{"answer":"memory"}', "\n", ["memory"]), ('{"answer":"consistent"}', "--require 2: only 1 transactions", ["--require 2: only 1 transactions"])):
+        yield differs("why there is no answer, %s, %r" % (line, errors), said, why_none(line, errors))
 
 
-def outcomes(folder: pathlib.Path) -> Iterator[Outcome]:
-    for part in (first(), as_told(folder), meanwhile(), sliced(folder), limits(), drawn(), programs(), in_full(folder), long_names(folder), pending(folder), no_records(folder)):
+def commands_of_others(folder: pathlib.Path, library: str) -> Iterator[Outcome]:
+    """Commands that take records say what to do with a history of Jepsen, and what is wrong with a path that `judge` is given."""
+    from tcc import NoAnswer, judge
+    history = str(folder / "history.edn")
+    for words in (["tcc-versions", history, history, "-o", "out.csv"], ["tcc-look", history], ["tcc-join", history, "-o", "out.csv"],
+                  ["tcc-sessions", history, history, "-o", "out.csv"], ["tcc-settle", history], ["tcc-shrink", history], ["tcc-all", history]):
+        done = run([sys.executable, os.path.join(library, "bin", words[0]), *words[1:]], library, cwd=folder)
+        yield "%s of a history of Jepsen" % words[0], None if done.returncode in (1, 3, 6) and "tcc-jepsen" in done.stderr else done.stderr
+    try:
+        judge(history, tcc=sys.executable)
+        said = "an answer"
+    except NoAnswer as error:
+        said = str(error)
+    yield differs("a path in the place of records", "%s is a path, and no records: explain(..) judges a file" % history, said)
+
+
+def outcomes(folder: pathlib.Path, library: str) -> Iterator[Outcome]:
+    for part in (first(), as_told(folder), meanwhile(), sliced(folder), limits(), drawn(), programs(), in_full(folder), long_names(folder), pending(folder), no_records(folder),
+                 commands_of_others(folder, library)):
         yield from part

@@ -319,6 +319,7 @@ def commands(folder: pathlib.Path, library: str, tcc: List[str]) -> Iterator[Out
     for name in COMMANDS:
         done = run([sys.executable, os.path.join(library, "bin", name), "--help"], library)
         yield "help of " + name, None if done.returncode == 0 and "usage: " + name in done.stdout else done.stderr[-300:]
+        yield differs("a wrong word for " + name, 64, run([sys.executable, os.path.join(library, "bin", name), "--none"], library).returncode)
     for name in MODULES:
         done = run([sys.executable, "-m", "tcc." + name, "--help"], library)
         yield "help of tcc." + name, None if done.returncode == 0 and "usage: %s.py" % name in done.stdout else done.stderr[-300:]
@@ -452,7 +453,7 @@ def outcomes(tcc: List[str]) -> Iterator[Outcome]:
                  "calls": calls.outcomes(folder, tcc), "looks": looks.outcomes(folder, library, tcc),
                  "watches": watches.outcomes(folder, library, tcc), "harness": harnessed.outcomes(folder, tcc),
                  "several": several.outcomes(folder, library, tcc), "nodes": nodes.outcomes(folder, library, tcc),
-                 "reported": reported.outcomes(folder), "imports": imports.outcomes(),
+                 "reported": reported.outcomes(folder, library), "imports": imports.outcomes(),
                  "fleets": fleets.outcomes(folder, library, tcc, python_with("distributed")),
                  "judged": judged.outcomes(folder, library, tcc, python_with("pytest"), python_with("hypothesis")),
                  "versions": versioned.outcomes(folder, library, tcc), "stores": stores.outcomes(folder, tcc), "answers": answers(folder, tcc), "commands": commands(folder, library, tcc),

@@ -46,9 +46,9 @@ def foreign(first: bytes) -> Optional[str]:
 
 def why_no_records(path: Union[str, "os.PathLike[str]"]) -> Optional[str]:
     """Why a path is none of a file of records, and what to do; none where it may be one, can't be read, or is a pipe, which is read once."""
+    if isinstance(path, bytes) or "\n" in os.fspath(path):
+        return "a text, and no path: write the records into a file, and give its path, or ask judge(..), which takes them in memory"
     name = os.fspath(path)
-    if "\n" in name:
-        return "a text, and no path: write the records into a file, and give its path"
     if os.path.isdir(name):
         return "%s is a folder: tcc-join -o records.csv %s/*.csv makes one history of the files in it" % (name, name.rstrip("/"))
     if not os.path.isfile(name):
@@ -65,6 +65,14 @@ def why_no_records(path: Union[str, "os.PathLike[str]"]) -> Optional[str]:
         what = "it has operations, as Jepsen writes them, and no records: tcc-jepsen %s > records.csv makes records of them, and tcc-report %s a page" % (
             name, name)
     return "%s: %s" % (name, what) if what else None
+
+
+def check_records(*paths: Union[str, "os.PathLike[str]"]) -> None:
+    """Refuses files that have no records, and says what to do."""
+    for path in paths:
+        why = why_no_records(path)
+        if why:
+            raise Foreign(why)
 
 
 def is_of_records(first: bytes) -> bool:

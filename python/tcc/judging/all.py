@@ -56,6 +56,7 @@ from tcc.judging.noted_versions import REFUSE, NoVersions, Versions, read_versio
 from tcc.judging.program import NoAnswer, Program, program_at
 from tcc.judging.runner import answer_of, of_history
 from tcc.judging.versions import Versioned, add_two_versions
+from tcc.record.known import hint_of_pending
 
 EXAMPLE = """example: session a doesn't see its own write, and b sees one write of a transaction and not the other
   $ cat records.csv
@@ -166,6 +167,7 @@ class Search:
     required: int = 1
     versions: Optional[Versions] = None
     two_versions: str = REFUSE
+    path: str = ""  # of the records, where they are a file
     left_out: int = 0  # versions that sessions contradict
     is_short: bool = False
     names: "Count[str]" = field(default_factory=Counter)
@@ -284,6 +286,9 @@ class Search:
             yield "consistent%s: %d transactions, %d sessions" % (behind, answer["transactions"], answer["sessions"])
         elif answer["answer"] == "unresolved":
             yield "unresolved%s: %d faults; --strike-faults leaves them out" % (behind, len(answer["faults"]))
+            hint = hint_of_pending(self.path, {(one["key"], one["value"]) for one in answer["faults"]}) if self.path else ""
+            if hint:
+                yield hint
         else:
             yield "there are more%s; --most N shows N" % behind
         yield from self.counts()
@@ -328,7 +333,7 @@ def run(asked: argparse.Namespace, doing: Doing, out: TextIO) -> int:
     tcc = Program(program_at(asked.tcc), asked.level, asked.large, asked.workers)
     notes = read_notes(asked.notes) if asked.notes else {}
     versions = read_versions(asked.versions) if asked.versions else None
-    search = Search(tcc, records, places, notes, asked.strike_faults, doing, asked.require, versions, asked.two_versions)
+    search = Search(tcc, records, places, notes, asked.strike_faults, doing, asked.require, versions, asked.two_versions, asked.records or "")
     try:
         for line in search.lines(asked.most):
             doing.say(line, out)

@@ -27,6 +27,8 @@ MOST_SHOWN = 200  # lines of records that a failed test shows
 
 def bytes_of(records: Records) -> bytes:
     """The records as the program reads them."""
+    if isinstance(records, os.PathLike) or isinstance(records, str) and "\n" not in records and os.path.exists(records):
+        raise NoAnswer("%s is a path, and no records: explain(..) judges a file" % os.fsdecode(records))
     if isinstance(records, str):
         return records.encode()
     return records if isinstance(records, bytes) else records.records()
@@ -60,7 +62,7 @@ class Judge:
         for one in residents:
             one.close()
 
-    def explain(self, records: Records, *, level: str = "causal", large: bool = False, require: int = 0) -> Answer:
+    def explain(self, records: Records, *, level: str = "causal", large: bool = True, require: int = 0) -> Answer:
         """The last answer for some records. NoAnswer says why there is none: a record that breaks a rule, a limit, no memory, fewer
         transactions than are required, or a program that isn't there."""
         reply = self.ask(Request("explain", bytes_of(records), level, large)).checked()
@@ -69,7 +71,7 @@ class Judge:
             raise NoAnswer("only %d transactions, and %d are required" % (answer.transactions, require), TOO_FEW)
         return answer
 
-    def contradicted(self, records: Records, *, level: str = "causal", large: bool = False) -> int:
+    def contradicted(self, records: Records, *, level: str = "causal", large: bool = True) -> int:
         """How many reads are contradicted by what their sessions knew, as `tcc survey` counts them; none where it can't list all."""
         lines = self.ask(Request("survey", bytes_of(records), level, large)).checked().answer.splitlines()
         told = json.loads(lines[-1]) if lines else {}
@@ -109,7 +111,7 @@ def shared_judge(tcc: Optional[Path] = None) -> Judge:
     return SHARED.get(path) or SHARED.setdefault(path, Judge(tcc=path))
 
 
-def judge(records: Records, *, level: str = "causal", large: bool = False, require: int = 0, tcc: Optional[Path] = None) -> Answer:
+def judge(records: Records, *, level: str = "causal", large: bool = True, require: int = 0, tcc: Optional[Path] = None) -> Answer:
     """The last answer for records in memory, as `Judge.explain` has it."""
     return shared_judge(tcc).explain(records, level=level, large=large, require=require)
 
@@ -122,7 +124,7 @@ def fault_of(answer: Answer, is_contradicted: bool) -> Optional[str]:
     return "the store broke its promise" if is_broken else "reads can't be traced, so nothing was judged"
 
 
-def assert_causal(records: Records, *, level: str = "causal", large: bool = False, require: int = 0, tcc: Optional[Path] = None) -> Consistent:
+def assert_causal(records: Records, *, level: str = "causal", large: bool = True, require: int = 0, tcc: Optional[Path] = None) -> Consistent:
     """The answer for records in memory, where that is consistent. Else AssertionError says what is wrong, and shows the records."""
     __tracebackhide__ = True
     text = bytes_of(records)

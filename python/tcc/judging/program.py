@@ -12,6 +12,8 @@ from tcc.common.rows import Json
 
 NO_PROGRAM = 127
 BESIDE = pathlib.Path(__file__).resolve().parents[3] / "tcc"  # where the archive has the program
+DEVICE = "device"  # what a run prints where a file or a stream failed; standard error says which
+MOST_LETTERS = 200
 ANSWERS = ("anomaly", "consistent", "unresolved")
 
 
@@ -95,8 +97,14 @@ def plain_end(line: str) -> str:
         return line
 
 
+def why_none(line: str, errors: str) -> List[str]:
+    """Why a run gave no answer, by its last line and by what it wrote to standard error, which says in words what the line has in one."""
+    said = [one for one in errors.splitlines() if one.strip() and one != DEVICE]
+    return said or [one for one in dict.fromkeys([plain_end(line)[:MOST_LETTERS], *errors.splitlines()]) if one.strip()]
+
+
 def no_answer(ended: "subprocess.CompletedProcess[bytes]") -> NoAnswer:
     """Why a run gave no answer, by what it printed."""
-    out = [plain_end(line) for line in ended.stdout.decode(errors="replace").splitlines()[-1:]]
-    why = "\n".join([*out, *ended.stderr.decode(errors="replace").splitlines()])
+    line = (ended.stdout.decode(errors="replace").splitlines() or [""])[-1]
+    why = "\n".join(why_none(line, ended.stderr.decode(errors="replace")))
     return NoAnswer("tcc ended with %d: %s" % (ended.returncode, why), ended.returncode if ended.returncode > 0 else 1)

@@ -12,7 +12,7 @@ import weakref
 from dataclasses import dataclass
 from typing import IO, Dict, List, Optional, Tuple
 
-from tcc.judging.program import NoAnswer
+from tcc.judging.program import NoAnswer, why_none
 from tcc.judging.runner import ANOMALY, CONSISTENT, UNRESOLVED
 
 JUDGED = (CONSISTENT, ANOMALY, UNRESOLVED)
@@ -56,8 +56,8 @@ class Reply:
         """Itself where it judged; else `NoAnswer` is raised."""
         if self.status in JUDGED:
             return self
-        said = [text.decode("utf-8", "replace").strip() for text in (b"".join(self.answer.splitlines()[-1:])[:200], self.notes)]
-        raise NoAnswer("tcc ended with %d: %s" % (self.status, "; ".join(filter(None, said))), self.status)
+        line, notes = (text.decode("utf-8", "replace").strip() for text in (b"".join(self.answer.splitlines()[-1:]), self.notes))
+        raise NoAnswer("tcc ended with %d: %s" % (self.status, "\n".join(why_none(line, notes))), self.status)
 
 
 class Asked(abc.ABC):

@@ -16,7 +16,7 @@ from tcc.common.kinds import VIOLATIONS
 from tcc.common.rows import Json
 from tcc.judging.answers import Link
 from tcc.judging.noted_versions import NoVersions
-from tcc.judging.program import NoAnswer, found_program, plain_end, wanted_program
+from tcc.judging.program import NoAnswer, found_program, wanted_program, why_none
 from tcc.judging.versions import Versioned, judged_with
 from tcc.record.sessions import judged_by
 
@@ -223,9 +223,8 @@ def run(words: List[str], seconds: Optional[float], begun: Optional[Begun] = Non
             running.kill()
         ended = subprocess.CompletedProcess(words, running.returncode, out, errors)
     if ended.returncode not in (CONSISTENT, ANOMALY, UNRESOLVED):
-        said = plain_end((ended.stdout.splitlines() or [""])[-1])[:200]
-        raise NoAnswer("tcc ended with %d: %s" % (ended.returncode, "; ".join(filter(None, (said, ended.stderr.strip())))),
-                       ended.returncode)
+        said = why_none((ended.stdout.splitlines() or [""])[-1], ended.stderr.strip())
+        raise NoAnswer("tcc ended with %d: %s" % (ended.returncode, "\n".join(said)), ended.returncode)
     return ended
 
 

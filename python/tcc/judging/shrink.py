@@ -12,7 +12,7 @@ import argparse
 import sys
 from typing import Callable, Dict, Hashable, Iterator, List, NamedTuple, Optional, Set, Tuple
 
-from tcc.common.inputs import opened
+from tcc.common.inputs import FIRST, foreign, is_of_records, opened
 from tcc.common.limits import MAX_KEYS, MAX_SESSIONS, MAX_TRANSACTIONS
 from tcc.common.outputs import check_apart
 from tcc.common.progress import Doing, status_of
@@ -166,7 +166,10 @@ def run(asked: argparse.Namespace, doing: Doing) -> int:
     if asked.output:
         check_apart(asked.output, [] if asked.file == "-" else [asked.file])
     with opened(asked.file) as file:
-        whole = records_of(file.read().decode("utf-8", "replace").splitlines())
+        first = file.read(FIRST)
+        if foreign(first) or not is_of_records(first):
+            raise NothingToShrink("%s has no records: tcc-jepsen makes some of a history of Jepsen" % asked.file)
+        whole = records_of((first + file.read()).decode("utf-8", "replace").splitlines())
     doing.now("judges the history")
     with Judge(tcc=program_at(asked.tcc)) as judge:
         try:

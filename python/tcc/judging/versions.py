@@ -23,6 +23,7 @@ import tempfile
 from dataclasses import dataclass, field
 from typing import Dict, Iterator, List, Mapping, NamedTuple, Optional, Tuple
 
+from tcc.common.inputs import check_records
 from tcc.common.limits import MAX_NAME_BYTES, MAX_OPERATIONS
 from tcc.common.notes import NoNotes, Note, read_notes
 from tcc.common.rows import History, open_records, read_history
@@ -312,6 +313,7 @@ def main() -> int:
     asked = ask.parse_args()
     gc.disable()  # as of report.py
     try:
+        check_records(asked.records)
         told = write_versioned(asked.records, asked.versions, asked.output, asked.level, asked.two_versions, asked.notes)
     except (NoVersions, NoNotes, OSError, ValueError) as error:
         print("tcc-versions: %s" % error, file=sys.stderr)

@@ -13,6 +13,7 @@ from collections import Counter
 from typing import Counter as Count, Dict, Iterator, List, Optional, Tuple
 
 from tcc.common.appended import NoRecord, Path
+from tcc.common.inputs import check_records
 from tcc.common.limits import MAX_NAME_BYTES
 from tcc.common.notes import NoNotes, Note, read_notes, rows_of, write_notes
 from tcc.common.rows import NAME
@@ -108,6 +109,7 @@ def main() -> int:
     ask.add_argument("--notes-output", metavar="FILE", help="the file for their annotations")
     asked = ask.parse_args()
     try:
+        check_records(asked.records)
         write_by_node(asked.records, asked.notes, asked.output, asked.notes_output)
     except (NoRecord, NoNotes, OSError, ValueError) as error:
         print("tcc-sessions: %s" % error, file=sys.stderr)

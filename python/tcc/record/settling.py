@@ -6,6 +6,7 @@ import sys
 from typing import Dict, Iterator, Sequence
 
 from tcc.common.appended import Busy, NoRecord
+from tcc.common.inputs import Foreign, check_records
 from tcc.common.words import Arguments
 from tcc.record.known import UnderWay, read_of
 from tcc.record.recorder import Recorder
@@ -49,8 +50,9 @@ def main() -> int:
     ask.add_argument("records", nargs="+", metavar="RECORDS", help="the files that they recorded into: all of one store")
     asked = ask.parse_args()
     try:
+        check_records(*asked.records)
         counts = settled(asked.records)
-    except (OSError, NoRecord, Busy) as error:
+    except (OSError, NoRecord, Busy, Foreign) as error:
         print("tcc-settle: %s" % error, file=sys.stderr)
         return 1
     print("tcc-settle: of unknown outcome %d read, so committed, %d unread, so aborted" % (counts["commit"], counts["abort"]),

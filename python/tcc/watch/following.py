@@ -12,6 +12,7 @@ import time
 from typing import List, Optional, TextIO, Union
 
 from tcc.common.appended import NoRecord
+from tcc.common.words import Arguments
 from tcc.judging.program import NoAnswer
 from tcc.judging.runner import ANOMALY, UNRESOLVED, Anomaly, Consistent
 from tcc.watch.looking import NO_PROGRAM, NOT_READ, Asking, Told
@@ -71,9 +72,9 @@ def follow(sources: Union[str, List[str]], asking: Asking, lines: Lines) -> int:
 
 
 def main() -> int:
-    ask = argparse.ArgumentParser(description="Has tcc watch answer for what recorders record, until SIGTERM or SIGINT ends it: then with the answer for "
-                                  "what has come, and its status. A line says each answer; where none comes for a minute, one says so.",
-                                  epilog=EXAMPLE, formatter_class=argparse.RawDescriptionHelpFormatter)
+    ask = Arguments(description="Has tcc watch answer for what recorders record, until SIGTERM or SIGINT ends it: then with the answer for "
+                    "what has come, and its status. A line says each answer; where none comes for a minute, one says so.",
+                    epilog=EXAMPLE, formatter_class=argparse.RawDescriptionHelpFormatter)
     ask.add_argument("sources", nargs="+", metavar="SOURCE", help="the files that they record into, of which some may come later; or the folder "
                      "in which they announce themselves, with watch=FOLDER")
     ask.add_argument("--level", choices=("causal", "atomic"), default="causal", help="by default causal")

@@ -15,6 +15,7 @@ from types import TracebackType
 from typing import TYPE_CHECKING, Any, Callable, Dict, FrozenSet, Iterator, List, Optional, Sequence, Set, TextIO, Type, Union
 
 from tcc.common.appended import NoRecord, Path
+from tcc.common.inputs import Foreign, check_records
 from tcc.common.progress import INTERRUPTED
 from tcc.common.whole import written_whole
 from tcc.common.words import Arguments
@@ -301,6 +302,7 @@ def main() -> int:
     ask.add_argument("--tcc", metavar="PATH", help="the program, by default $TCC, or else the one on the path")
     asked = ask.parse_args()
     try:
+        check_records(*asked.records)
         if asked.output:
             snapshot(asked.records, asked.output)
             return 0
@@ -308,7 +310,7 @@ def main() -> int:
     except NoAnswer as error:
         print("tcc-look: %s" % error, file=sys.stderr)
         return NOT_READ if isinstance(error.__cause__, NoVersions) else error.status or NO_PROGRAM
-    except (NoRecord, OSError) as error:
+    except (NoRecord, Foreign, OSError) as error:
         print("tcc-look: %s" % error, file=sys.stderr)
         return NOT_READ
     except KeyboardInterrupt:
@@ -329,6 +331,7 @@ def join() -> int:
     ask.add_argument("-o", "--output", metavar="FILE", required=True, help="the file for the history, which gets its name once it is whole")
     asked = ask.parse_args()
     try:
+        check_records(*asked.records)
         with written_whole(asked.output) as out:
             joined(asked.records, out)
     except (NoRecord, OSError, ValueError) as error:
