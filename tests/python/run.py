@@ -24,6 +24,7 @@ from typing import Callable, Dict, Iterator, List, Optional
 
 sys.path.insert(0, str(pathlib.Path(__file__).resolve().parent.parent))
 import calls  # noqa: E402
+import converted  # noqa: E402
 import harnessed  # noqa: E402
 import fleets  # noqa: E402
 import imports  # noqa: E402
@@ -44,7 +45,7 @@ from helpers import SECONDS, TOP, Broken, Refused, differs, ended, raises, run  
 from limits import asked  # noqa: E402
 
 PACKAGE = TOP / "python"
-COMMANDS = ["tcc-all", "tcc-edn", "tcc-fleet", "tcc-full", "tcc-jepsen", "tcc-join", "tcc-look", "tcc-picture", "tcc-places", "tcc-report",
+COMMANDS = ["tcc-all", "tcc-convert", "tcc-edn", "tcc-fleet", "tcc-full", "tcc-jepsen", "tcc-join", "tcc-look", "tcc-picture", "tcc-places", "tcc-report",
             "tcc-sessions", "tcc-settle", "tcc-shrink", "tcc-versions", "tcc-watch"]
 # What `python3 -m tcc.NAME` starts.
 MODULES = ["all", "edn", "full", "jepsen", "looking", "picture", "places", "report", "sessions", "settling", "versions"]
@@ -453,7 +454,7 @@ def outcomes(tcc: List[str]) -> Iterator[Outcome]:
                  "calls": calls.outcomes(folder, tcc), "looks": looks.outcomes(folder, library, tcc),
                  "watches": watches.outcomes(folder, library, tcc), "harness": harnessed.outcomes(folder, tcc),
                  "several": several.outcomes(folder, library, tcc), "nodes": nodes.outcomes(folder, library, tcc),
-                 "reported": reported.outcomes(folder, library), "imports": imports.outcomes(),
+                 "reported": reported.outcomes(folder, library), "converted": converted.outcomes(folder, library), "imports": imports.outcomes(),
                  "fleets": fleets.outcomes(folder, library, tcc, python_with("distributed")),
                  "judged": judged.outcomes(folder, library, tcc, python_with("pytest"), python_with("hypothesis")),
                  "versions": versioned.outcomes(folder, library, tcc), "stores": stores.outcomes(folder, tcc), "answers": answers(folder, tcc), "commands": commands(folder, library, tcc),

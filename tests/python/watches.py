@@ -416,7 +416,7 @@ def commanded(folder: pathlib.Path, library: str, tcc: List[str]) -> Iterator[Ou
         wait(lambda: (run / "found").exists())
     out, errors = running.communicate(timeout=SECONDS)
     yield differs("a watch that finds an anomaly", (1, "anomaly: 3 steps, stale-initial-read", ""), (running.returncode, out.splitlines()[0].split(" ", 1)[1], errors))
-    for about, words, statuses, said in (("a folder and a file", [str(run), str(path)], (2, 64), "a folder is watched alone"),
+    for about, words, statuses, said in (("a folder and a file", [str(run), str(path)], (64,), "a folder is watched alone"),
                                          ("a folder of an earlier run", [str(run)], (6,), "each run needs a folder of its own")):
         running = begun(*words)
         _, errors = running.communicate(timeout=SECONDS)
@@ -426,6 +426,32 @@ def commanded(folder: pathlib.Path, library: str, tcc: List[str]) -> Iterator[Ou
     running.terminate()
     _, errors = running.communicate(timeout=SECONDS)
     yield differs("tcc-watch of a file that never comes", (6, True), (running.returncode, "commanded-never.csv never came" in errors))
+
+
+def in_json(folder: pathlib.Path, library: str, tcc: List[str]) -> Iterator[Outcome]:
+    """With `--json` each line of the command says which seal it answers, for how many records, when, and how many bytes are behind; so does the
+    last one, and one that nothing came."""
+    from tcc import Recorder
+    script = "import sys; from tcc.watch import following; following.QUIET_SECONDS = 0.5; sys.exit(following.main())"
+    variables = {**os.environ, "PYTHONPATH": library, "PYTHONDONTWRITEBYTECODE": "1", "TCC": os.path.abspath(tcc[-1])}
+    path = folder / "commanded.json.csv"
+    running = subprocess.Popen([sys.executable, "-c", script, "--json", str(path)], stdout=subprocess.PIPE, stderr=subprocess.PIPE, text=True, env=variables)
+    with Recorder(path) as recorder:
+        session = recorder.session("a")
+        writes(recorder, session, 20)
+        lines = [running.stdout.readline()]
+        while "quiet" not in lines[-1] and lines[-1]:
+            lines.append(running.stdout.readline())
+        ended(session, [("r", "k", 7)], None, True)
+    running.terminate()
+    rest, _ = running.communicate(timeout=SECONDS)
+    told = [json.loads(line) for line in [*lines, *rest.splitlines()]]
+    told = [one for at, one in enumerate(told) if one["answer"] != "quiet" or at + 1 == len(lines)]
+    times = [re.fullmatch(r"[0-9]{4}-[0-9]{2}-[0-9]{2}T[0-9]{2}:[0-9]{2}:[0-9]{2}[+-][0-9]{4}", one.pop("time")) for one in told]
+    yield "times in JSON", None if all(times) else str(told)
+    first = {"answer": "consistent", "transactions": 20, "sessions": 1, "seal": 1, "record": 60, "behind": 0}
+    yield differs("answers in JSON", [first, {"answer": "quiet", "transactions": 20, "seal": 1, "record": 60, "behind": 0}], told[:2])
+    yield differs("the last one in JSON", (2, "unresolved", 2, 63, 0), (running.returncode, *(told[-1][name] for name in ("answer", "seal", "record", "behind"))))
 
 
 def passed_on(folder: pathlib.Path) -> Iterator[Outcome]:
@@ -439,6 +465,8 @@ def passed_on(folder: pathlib.Path) -> Iterator[Outcome]:
         path.write_text(text)
         watching._pass_on(sent)
         yield differs("what is passed on of %d bytes" % len(text), (wanted, count), (sent.getvalue().decode(), watching._count))
+        whole = len(wanted) + (5 if "seal" in text else 0)
+        yield differs("how far that is", {"seal": 0, "record": wanted.count("\n"), "behind": len(text) - whole}, watching.state())
 
 
 def taken() -> Iterator[Outcome]:
@@ -477,3 +505,4 @@ def outcomes(folder: pathlib.Path, library: str, tcc: List[str]) -> Iterator[Out
     yield from closed(folder, tcc)
     yield from shared(folder, tcc)
     yield from commanded(folder, library, tcc)
+    yield from in_json(folder, library, tcc)

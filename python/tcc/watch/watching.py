@@ -16,7 +16,8 @@ from typing import IO, TYPE_CHECKING, Callable, Dict, Iterator, List, Optional, 
 
 from tcc.common.appended import NoRecord, Path
 from tcc.common.limits import LARGE_SEALS
-from tcc.judging.program import NoAnswer
+from tcc.common.rows import Json
+from tcc.judging.program import NoAnswer, why_none
 from tcc.judging.runner import ANOMALY, CONSISTENT, UNRESOLVED, Anomaly, Answer, Unresolved, program
 from tcc.record.known import ENDINGS, PENDING, SEAL
 from tcc.watch import shared
@@ -53,7 +54,7 @@ class Watching(Verdict):
         self._line = b""
         self._kind: Optional[Type[Told]] = None
         self._ends: Dict[int, int] = {}  # by the places of the sources, how many bytes were passed on
-        self._count = 0
+        self._count, self._rows, self._seals = 0, 0, 0
         self._over, self._ending = threading.Event(), threading.Event()
         self._lock = threading.Lock()
         self._running: "Optional[subprocess.Popen[bytes]]" = None
@@ -63,6 +64,14 @@ class Watching(Verdict):
     def count(self) -> int:
         """How many transactions were passed on to `tcc watch` so far."""
         return self._count
+
+    def state(self) -> Json:
+        """How far the answers are: the number of the seal that was answered last, how many records came before it, and how many bytes of records
+        are behind it, since they weren't passed on yet."""
+        paths = [one if isinstance(one, (str, os.PathLike)) else one.path for one in self.sources]
+        sizes = [os.path.getsize(path) if os.path.exists(path) else 0 for path in paths]
+        behind = sum(max(size - self._ends.get(number, 0), 0) for number, size in enumerate(sizes))
+        return {"seal": self._seals, "record": self._rows, "behind": behind}
 
     def is_running(self) -> bool:
         """Whether more answers may come."""
@@ -122,20 +131,20 @@ class Watching(Verdict):
         with self._lock:
             self._running = running
         assert running.stdin is not None and running.stdout is not None
-        wanted, seals = LEAST_TRANSACTIONS, 0
+        wanted = LEAST_TRANSACTIONS
         while not self._over.is_set():
             is_last = self._ending.is_set()
             with contextlib.suppress(BrokenPipeError):  # where the program has ended, its last line says why
                 self._pass_on(running.stdin, self._last_moment() if is_last else None)
                 if is_last:
                     close(running.stdin)
-                elif self._count < wanted or seals == LARGE_SEALS:
+                elif self._count < wanted or self._seals == LARGE_SEALS:
                     self._ending.wait(PAUSE_SECONDS)
                     continue
                 else:
                     running.stdin.write(SEAL.encode())
                     running.stdin.flush()
-            seals, wanted = seals + 1, self._count + max(LEAST_TRANSACTIONS, int(self._count * self.asking.growth))
+            self._seals, wanted = self._seals + 1, self._count + max(LEAST_TRANSACTIONS, int(self._count * self.asking.growth))
             line = running.stdout.readline()
             if self._over.is_set() or self._is_done(self._answer(line, is_last, running, errors), is_last):
                 return
@@ -151,6 +160,7 @@ class Watching(Verdict):
                 self._ends[number] = self._ends.get(number, 0) + len(line)
                 if line != SEAL.encode():
                     records.write(line)
+                    self._rows += 1
                 self._count += line.endswith(ENDINGS)
         taken = {session for one in last or [] for session in one.sessions}
         for one in last or []:
@@ -243,9 +253,9 @@ def no_answer(line: bytes, running: "subprocess.Popen[bytes]", errors: IO[bytes]
     """Why there is no answer: the program's status, its last line, and what it said on standard error since the last answer."""
     status = status_of(running)
     errors.seek(0)
-    texts = [one.decode("utf-8", "replace").strip()[:MOST_SAID] for one in (line, errors.read())]
+    last, texts = (one.decode("utf-8", "replace").strip()[:MOST_SAID] for one in (line, errors.read()))
     ended = "gave no answer" if status is None else "ended with %d" % status
-    return NoAnswer("tcc watch %s: %s" % (ended, "; ".join(filter(None, texts)) or "it said nothing"), status)
+    return NoAnswer("tcc watch %s: %s" % (ended, "; ".join(why_none(last, texts)) or "it said nothing"), status)
 
 
 def part_of(source: Source, begin: int, ends: Dict[str, int]) -> List[bytes]:
