@@ -5,5 +5,6 @@ pub mod Listing
 pub mod NamesLemmas
 pub mod NoFloats
 pub mod Numbers
+pub mod RunNotes
 pub mod Runs
 pub mod Unfaulted
