@@ -50,7 +50,7 @@ HELD = {
         "search for a small certificate, 1 to {MAX_WORKERS}."),
     "docs/RECORDING.md": (
         "A history has at most {MAX_SESSIONS} sessions, or {LARGE_SESSIONS} with `--large`",
-        "There are at most {MAX_SESSIONS}, each name once", "`TooManySessions` that {MAX_SESSIONS} are open"),
+        "There are at most {MAX_SESSIONS}, each name once"),
     "docs/FORMATS.md": (
         "names: 1 to {MAX_NAME_BYTES} bytes",),
     "docs/tcc.1": ("names: 1 to {MAX_NAME_BYTES} bytes", "N threads, 1 to {MAX_WORKERS}, order"),
