@@ -429,7 +429,7 @@ def commanded(folder: pathlib.Path, library: str, tcc: List[str]) -> Iterator[Ou
 
 
 def in_json(folder: pathlib.Path, library: str, tcc: List[str]) -> Iterator[Outcome]:
-    """With `--json` each line of the command says which seal it answers, for how many records, when, and how many bytes are behind; so does the
+    """With `--json` each line of the command says which seal it answers, for how many records, when, and how many bytes come after; so does the
     last one, and one that nothing came."""
     from tcc import Recorder
     script = "import sys; from tcc.watch import following; following.QUIET_SECONDS = 0.5; sys.exit(following.main())"

@@ -67,7 +67,7 @@ class Watching(Verdict):
 
     def state(self) -> Json:
         """How far the answers are: the number of the seal that was answered last, how many records came before it, and how many bytes of records
-        are behind it, since they weren't passed on yet."""
+        weren't passed on yet."""
         paths = [one if isinstance(one, (str, os.PathLike)) else one.path for one in self.sources]
         sizes = [os.path.getsize(path) if os.path.exists(path) else 0 for path in paths]
         behind = sum(max(size - self._ends.get(number, 0), 0) for number, size in enumerate(sizes))
