@@ -7,7 +7,7 @@ import sys
 from typing import Dict, Iterator, List, Tuple
 
 from counted import Outcome
-from helpers import differs, run
+from helpers import differs, raises, run
 
 RECORDS = ["a,begin", "a,w,x,5", "p2,begin", "a,commit", "p2,r,x,5", "p2,r,8,0", "p2,commit", "b,begin", "b,r,x,5", "b,w,y,3", "b,unknown",
            "c,begin", "c,w,z,9", "c,abort", "d,begin", "d,w,u,7", "d,unknown", "p2,begin", "p2,r,y,3", "p2,commit"]
@@ -93,6 +93,8 @@ def outcomes(folder: pathlib.Path, library: str) -> Iterator[Outcome]:
     yield differs("records of plain lines", (0, wanted), (done.returncode, by_session((folder / "converted.csv").read_text())))
     yield "what is said of them", None if "4 transactions; left out: 1 that" in done.stderr else done.stderr
     yield differs("another initial value", ["3,begin", "3,r,1,0", "3,w,1,8", "3,commit"], again("r(1,-1,3,0)\nw(1,8,3,0)\n", -1).split())
+    yield differs("who reads the initial state alone", ["3,begin", "3,r,1,0", "3,commit"], again("r(1,0,3,0)\n").split())
+    yield "0 beside another initial value", raises(Unfit, lambda: again("r(1,0,3,0)\n", -1))
     for text, said in REFUSED:
         plain.write_text(text)
         done = run([sys.executable, command, "--from-plain", str(plain)], library)

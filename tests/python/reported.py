@@ -244,7 +244,7 @@ def no_records(folder: pathlib.Path) -> Iterator[Outcome]:
         yield differs("in words, %s" % line, wanted, plain_end(line))
     row = '{"answer":"row","kind":"FieldCount","row":2}'
     for line, errors, said in ((row, "row 2: \"a\": expected a record\n", ["row 2: \"a\": expected a record"]), (row, "", ["row 2: FieldCount"]),
-                               ("device", "none.csv: No such file\ndevice\n", ["none.csv: No such file"]), ("device", "device\n", ["device"]),
+                               ("device", "none.csv: No such file\ndevice\n", ["none.csv: No such file"]), ("device", "device\n", ["device"]), ("memory", "no room\n", ["memory", "no room"]),
                                ('{"answer":"memory"}', "\n", ["memory"]), ('{"answer":"consistent"}', "--require 2: only 1 transactions", ["--require 2: only 1 transactions"])):
         yield differs("why there is no answer, %s, %r" % (line, errors), said, why_none(line, errors))
 

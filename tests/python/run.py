@@ -130,7 +130,7 @@ def record(recorder, value):
 """
 # What pytest's report says of each test, and what is in its message.
 REPORTED = {"test_kept": None, "test_broken": "anomaly: 3 steps, stale-initial-read", "test_untraced": "ThinAir a/2 op 1 x 7",
-            "test_nothing": "only 0 transactions", "test_no_records": "Unfinished", "test_watched": "anomaly: 3 steps, stale-initial-read",
+            "test_nothing": "only 0 transactions", "test_no_records": "the input ends: expected commit", "test_watched": "anomaly: 3 steps, stale-initial-read",
             "test_watched_in_a_thread": "anomaly: 3 steps, stale-initial-read", "test_watched_at_the_end": "anomaly: 3 steps, stale-initial-read",
             "test_watched_untraced": "ThinAir a/2 op 1 x 7", "test_watched_alone": None, "test_watched_kept": None}
 
@@ -142,7 +142,7 @@ ROUNDS = {
         "kept": ("a,begin\na,w,x,1\na,commit\n", None),
         "stale": ("a,begin\na,w,x,1\na,commit\na,begin\na,r,x,0\na,commit\n", "the store broke its promise"),
         "untraced": ("a,begin\na,r,x,7\na,commit\n", "ThinAir a/1 op 1 x 7"),
-        "wrong": ("a,begin\na,q,x,7\n", "UnknownWord"),
+        "wrong": ("a,begin\na,q,x,7\n", "expected r or w"),
         "empty": ("", "tcc ended with 3"),
     },
     "none": {},

@@ -114,12 +114,31 @@ def listed(folder: pathlib.Path, path: pathlib.Path, versions: pathlib.Path, lib
     command = [sys.executable, os.path.join(library, "bin/tcc-look"), "--tcc", os.path.abspath(tcc[-1]), str(path)]
     torn = folder / "torn.versions"  # its last line isn't whole yet
     torn.write_text(versions.read_text() + "x,1,")
-    for words, status in (([], 0), (["--versions", str(versions)], 1), (["--versions", str(torn), "--versions", str(numbers)], 6)):
+    for words, status in (([], 0), (["--versions", str(versions)], 1), (["--versions", str(torn)], 1), (["--versions", str(torn), "--versions", str(numbers)], 6)):
         done = run([*command, *words], library)
         yield differs("tcc-look %s" % " ".join(words), status, done.returncode)
         yield differs("keys of tcc-look", False, "x.v" in done.stdout or "o.1" in done.stdout)
     numbers.write_text("x,0,1\nx,1,0\n")
     yield "a survey with versions that are none", raises(NoAnswer, lambda: survey(path, tcc=tcc[-1], versions=numbers))
+
+
+def counted() -> Iterator[Outcome]:
+    """A survey counts names from the most frequent on, then in the order of names; where reads are on a circle it has that and what can't be
+    judged, and so it is a breach."""
+    from tcc import ContradictedRead, Fault, Surveyed
+    from tcc.judging.survey import surveyed
+    def read(name: str) -> ContradictedRead:
+        return ContradictedRead("a/2", 1, "x", 1, "a/1", name, 5)
+    names = ["monotonic reads", "causal chain", "fractured read", "causal chain"]
+    found = Surveyed(tuple(map(read, names)), (), 9)
+    yield differs("names of a survey", [("causal chain", 2), ("fractured read", 1), ("monotonic reads", 1)], found.counts())
+    fault = {"kind": "ThinAir", "session": "a", "place": 1, "op": 2, "key": "y", "value": 7}
+    lines = [{"answer": "unresolved", "faults": [fault]}, {"answer": "circular", "transactions": ["a/1", "b/1"]}]
+    circle = surveyed("".join(json.dumps(line) + "\n" for line in lines), None, None, {})
+    yield differs("a survey of a circle", (Surveyed((), (Fault(**fault),), 0, ("a/1", "b/1")), True, [True, False]), (circle, circle.is_any(), [
+        found.is_any(), Surveyed((), (Fault(**fault),), 0).is_any()]))
+    yield differs("its text", "unresolved: 1 faults\nThinAir a/1 op 2 y 7\ncircular: a/1 b/1\n", circle.text())
+    yield differs("its JSON", lines, [json.loads(line) for line in circle.json().splitlines()])
 
 
 def doubtful(folder: pathlib.Path, path: pathlib.Path, tcc: List[str]) -> Iterator[Outcome]:
@@ -168,6 +187,35 @@ def neighbours() -> Iterator[Outcome]:
     for told, wanted in (({"1": 1, "2": 2}, [("c/2", "1", "b/1")]), ({"1": 2, "2": 1}, []), ({"1": 7, "2": 8}, [("c/2", "1", "b/1")])):
         stale = Versioned(read_history(io.StringIO(text)), {"x": told}).stale
         yield differs("older by %s" % told, wanted, [(one.reader, one.operation.value, one.writer) for one in stale])
+
+
+def told_apart() -> Iterator[Outcome]:
+    """A reader of two older writes of a key is told of each by its own, by rows; and of a key one version may be left out."""
+    from tcc.common.rows import read_history
+    from tcc.judging.answers import Link
+    from tcc.judging.contradicted import Contradicted
+    from tcc.judging.noted_versions import Versions
+    from tcc.judging.versions import Versioned
+    # c/1 read the write of d; c/2 reads that of b, and then that of a, which is older than that of b too.
+    text = "".join("{0},begin\n{0},w,x,{1}\n{0},commit\n".format(*pair) for pair in (("a", 1), ("b", 2), ("d", 3)))
+    text += "c,begin\nc,r,x,3\nc,commit\nc,begin\nc,r,x,2\nc,r,x,1\nc,commit\n"
+    one = Versioned(read_history(io.StringIO(text)), {"x": {"1": 10, "2": 20, "3": 30}})
+    list(one.records())
+    yield differs("older reads, each by its own writer", [("2", "d/1"), ("1", "b/1")], [(each.operation.value, each.writer) for each in one.stale])
+    walk = (Link("reads", "b/1", "c/2", "x"),)
+    cycle = [Link("session", "init", "b/1"), Link("derived", "b/1", "init", "x.v20", "c/2", walk)]
+    yield differs("what the mark of the second says", [Link("version", "a/1", "b/1", "x"), Link("derived", "b/1", "a/1", "x", "c/2", walk)], one.moved(cycle))
+    first = Contradicted("c/1", one.history.find("c/1").operations[0], "d/1", "b/1", "causal chain", (11,))
+    listed = [first, one.stale[1]]
+    yield differs("older reads beside others, each once and by rows", [11, 14, 15], [each.operation.row for each in one.with_stale(listed)])
+    versions = Versions()
+    for key, value, version in (("x", "1", 10), ("x", "2", 20), ("y", "1", 5), ("y", "1", 6), ("z", "3", 1), ("z", "3", 2)):
+        versions.note(key, value, version, "")
+    for about, key, value, left, places in (("the first", "x", "1", {"x": {"2": 20}, "y": {"1": 5}, "z": {"3": 1}}, [2, 3]),
+                                            ("the third", "y", "1", {"x": {"1": 10, "2": 20}, "z": {"3": 1}}, [2, 3]),
+                                            ("the last", "z", "3", {"x": {"1": 10, "2": 20}, "y": {"1": 5}}, [3, 3])):
+        found = versions.without(key, value)
+        yield differs("versions without %s, and doubts" % about, (left, places), (dict(found), [each.before for each in found.doubts]))
 
 
 def apart() -> Iterator[Outcome]:
@@ -321,7 +369,9 @@ def by_definition(folder: pathlib.Path, tcc: List[str], count: int) -> Iterator[
 
 def outcomes(folder: pathlib.Path, library: str, tcc: List[str]) -> Iterator[Outcome]:
     yield from recorded(folder, library, tcc)
+    yield from counted()
     yield from retold(folder)
     yield from neighbours()
+    yield from told_apart()
     yield from apart()
     yield from by_definition(folder, tcc, 150)

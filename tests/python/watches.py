@@ -27,9 +27,9 @@ ENDING = {
     "answers once": ("for line in sys.stdin:\n    if line == 'seal\\n':\n        break\n"
                      "print('{\"answer\":\"consistent\",\"sessions\":1,\"transactions\":16}', flush=True)\n"
                      "sys.stdin.readline()\nprint('{\"answer\":\"memory\"}', flush=True)\nsys.stderr.write('no room left\\n')\nsys.exit(5)",
-                     5, 'tcc watch ended with 5: {"answer":"memory"}; no room left'),
+                     5, 'tcc watch ended with 5: memory; no room left'),
     "reads nothing": ("sys.stderr.write('no such level\\n')\nsys.exit(2)", 2, "tcc watch ended with 2: no such level"),
-    "has ended": ("print('{\"answer\":\"memory\"}')\nsys.exit(5)", 5, 'tcc watch ended with 5: {"answer":"memory"}'),
+    "has ended": ("print('{\"answer\":\"memory\"}')\nsys.exit(5)", 5, 'tcc watch ended with 5: memory'),
     "is killed": ("sys.stdin.readline()\nos.kill(os.getpid(), signal.SIGKILL)", -9, "tcc watch ended with -9: it said nothing"),
 }
 

@@ -99,8 +99,9 @@ def plain_end(line: str) -> str:
 
 def why_none(line: str, errors: str) -> List[str]:
     """Why a run gave no answer, by its last line and by what it wrote to standard error, which says in words what the line has in one."""
-    said = [one for one in errors.splitlines() if one.strip() and one != DEVICE]
-    return said or [one for one in dict.fromkeys([plain_end(line)[:MOST_LETTERS], *errors.splitlines()]) if one.strip()]
+    notes, said = [one for one in errors.splitlines() if one.strip() and one != DEVICE], plain_end(line)[:MOST_LETTERS]
+    is_said = said in ("", DEVICE, "consistent") or any(one.startswith(said.partition(":")[0] + ":") for one in notes)
+    return notes if notes and is_said else [one for one in (said, *notes) if one]
 
 
 def no_answer(ended: "subprocess.CompletedProcess[bytes]") -> NoAnswer:
