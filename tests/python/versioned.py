@@ -190,7 +190,7 @@ def neighbours() -> Iterator[Outcome]:
 
 
 def told_apart() -> Iterator[Outcome]:
-    """A reader of two older writes of a key is told of each by its own, by rows; and of a key one version may be left out."""
+    """A reader of two older writes of a key has a line for each, by rows; and of a key one version may be left out."""
     from tcc.common.rows import read_history
     from tcc.judging.answers import Link
     from tcc.judging.contradicted import Contradicted
