@@ -128,7 +128,7 @@ passed-further l bytes seen rest said after is long (inr h) =
     let more = longer bytes seen rest l.records is long in
     inr (omega (arith, more, h.0), h.1, h.2)
 
--- the records came, but memory is out, and then so many bytes were passed over
+-- the records came, but memory is out, and then n bytes were passed over
 pub not_held : (l : Lengths) (q : Question) (before mid after : Option (List ℕ)) (n m : ℕ) (said : Refusal)
     → total l ≤ MAX_BODY_BYTES → n ≡ l.records → m ≡ certificate_length l
     → ((seen : List ℕ) × (length seen ≡ n) × Consumes before mid seen)

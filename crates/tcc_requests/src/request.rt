@@ -15,7 +15,7 @@ pub struct Request {
 /// Why a request is refused.
 #[derive(Clone, Copy, Debug, PartialEq, Eq)]
 pub enum Refusal {
-    /// There is no line with the lengths of a body, so nothing after it can be told apart either.
+    /// There is no line with the lengths of a body, so where the next request begins is unknown.
     Header,
     /// The stream ended within the body.
     Cut,

@@ -16,8 +16,8 @@ use Rattle.tcc_survey_run.specs.Runs.{IsSurveyed, answers_of, finished, limits_o
 use Rattle.tcc_survey_run.specs.Texts.{no_answer_note}
 use Rattle.tcc_survey_run.specs.declared.options.SurveyOptions.{SurveyOptions}
 
--- which write each of the first five read faults is about, and then, where the run ends as one that found nothing, that this is no answer;
--- no more of each note than a part from its front was written
+-- which write each of the first five read faults is about. Then, where the run ends as one that found nothing, that this is no answer. No
+-- more of each note than a part from its front was written
 abbrev pub NotesListing : Sessions → ℕ → Option (List ℕ) → Option (List ℕ) → Type 0
 NotesListing s code before after =
     (between : Option (List ℕ)) × AddsEach before between (read_notes s (read_faults s)) × IsNoted between after (no_answer_note code)

@@ -35,14 +35,14 @@ IsHeld held more None = Unit {0}
 IsHeld None more (Some bytes) = ⊥
 IsHeld (Some before) more (Some bytes) = bytes ≡ before ++ more
 
--- all of so many bytes came, or the stream ended before
+-- all n bytes came, or the stream ended before
 abbrev pub HasRead : Option (List ℕ) → Option (List ℕ) → ℕ → Option (List ℕ) → Part → Type 0
 HasRead before after count held (Held bytes) =
     (seen : List ℕ) × (length seen ≡ count) × Consumes before after seen × IsHeld held seen (Some bytes.items)
 HasRead before after count held Passed = (seen : List ℕ) × (length seen ≡ count) × Consumes before after seen
 HasRead before after count held Cut = (seen : List ℕ) × (length seen < count) × Consumes before after seen × IsAtEnd after
 
--- so many bytes were passed over, or the stream ended before
+-- n bytes were passed over, or the stream ended before
 abbrev pub IsPassed : ℕ → List ℕ → Refusal → Refusal → Option (List ℕ) → Type 0
 IsPassed count bytes why said after =
     ((count ≤ length bytes) × (said ≡ why) × (after ≡ Some (drop count bytes)))

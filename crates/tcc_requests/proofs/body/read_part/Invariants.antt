@@ -1,4 +1,4 @@
--- so many bytes came, and are held after those that were
+-- n bytes came, and are held after those that were
 use Rattle.std.proofs.Common.{◌≡◌, ◌+◌, ℕ, List, length, option_map}
 use Rattle.std.specs.Io.KnownBytes.{Consumes}
 use Rattle.tcc_requests.specs.private.Reading.{IsHeld}
