@@ -9,6 +9,7 @@ pub mod FewTransactions
 pub mod RecordedKeys
 pub mod WrittenAnswer
 pub mod FoundLemmas
+pub mod KnownLemmas
 pub mod OneAnswer
 pub mod OfferLemmas
 pub mod GrownAnswer

@@ -4,6 +4,7 @@
 //! Must hold: the answer is the first one by the rule of ties, and the checker accepts its certificate.
 #![tactic(auto)]
 
+mod distances;
 mod explaining;
 mod fault;
 mod incremental;
@@ -11,6 +12,7 @@ pub mod laws;
 mod tables;
 mod warm_start;
 
+pub use distances::{Distances, distance_tables};
 pub use explaining::explain;
 pub use fault::NextFault;
 pub use incremental::explain_next;
