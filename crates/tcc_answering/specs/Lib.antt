@@ -1,3 +1,3 @@
 pub mod Firsts
 pub mod Answered
-pub mod private
+pub mod Small

@@ -1,10 +1,13 @@
 -- A search that begins with the cost of a least cycle finds no less, so its rows are capped there.
-use Rattle.std.proofs.Common.{ℕ, ◌≡◌, ◌<◌, ◌≤◌, ◌⊎◌, inl, inr, ◌-◌, List, Option, None, Some, refl, ap, subst, arith}
+use Rattle.std.proofs.Common.{ℕ, ◌≡◌, ◌<◌, ◌≤◌, ◌⊎◌, inl, inr, ◌-◌, List, Option, None, Some, refl, sym, ap, subst, arith}
 use Rattle.std.specs.Prelude.{slice_index_or}
-use Rattle.tcc_graph.specs.Levels.{Judged}
+use Rattle.tcc_reads.specs.History.{History}
+use Rattle.tcc_graph.specs.Levels.{Judged, judged}
 use Rattle.tcc_graph.specs.Links.{cost}
 use Rattle.tcc_graph.specs.Routes.{IsLeastCycle}
 use Rattle.tcc_graph.specs.Tables.{row_of}
+use Rattle.tcc_graph.specs.Ties.{IsFirstCycle}
+use Rattle.tcc_graph.specs.declared.level.Level.{Level}
 use Rattle.tcc_graph.specs.declared.link.Link.{Link}
 use Rattle.tcc_derive.specs.Prices.{Tables, IsPricesOf}
 use Rattle.tcc_core.specs.Shares.{SettleAt, IsCappedDistance, IsCycleCost}
@@ -13,7 +16,8 @@ use Rattle.tcc_steal.specs.Findings.{IsFound}
 use Rattle.tcc_steal.specs.declared.found.Found.{Found}
 use Rattle.tcc_steal.specs.private.Floors.{least_cost}
 use Rattle.tcc_steal.proofs.Floor.{floor_attained, floor_below}
-use Rattle.tcc_explain.specs.KnownCost.{IsLeastCost}
+use Rattle.tcc_explain.specs.KnownCost.{AreDistances, IsLeastCost}
+use Rattle.tcc_explain.specs.declared.distances.Distances.{Distances}
 use Rattle.tcc_explain.specs.private.Capping.{AreFarRows}
 
 -- ---- the prices determine the cost of a least cycle
@@ -63,3 +67,16 @@ module _ (j : Judged) (workers : ℕ) (found : Found) (is : IsFound j workers fo
         λ s v up below. subst (λ (o : Option ℕ). IsCappedDistance j s v o (slice_index_or (row_of found.rows.items s) (v - s) None))
         (found_cost found.least is.settle) (is.exact s v up below);
   }
+
+-- ---- the first of the least cycles
+
+module _ (h : History) (level : Level) (s : ℕ) (links : List Link) (first : IsFirstCycle (judged h level) s links) (n : ℕ) (costs : n ≡ cost links)
+    (other : Level) (same : other ≡ level) where
+  -- it shows what a least cycle costs
+  pub first_cost : IsLeastCost (judged h other) n
+  first_cost = (s, links, subst (λ (l : Level). IsLeastCycle (judged h l) s links) (sym same) first.least, sym costs)
+
+  -- its tables are those at its level and its cost
+  pub first_tables : (d : Distances) → AreDistances (judged h other) n d → AreDistances (judged h level) (cost links) d
+  first_tables d are =
+      subst (λ (m : ℕ). AreDistances (judged h level) m d) costs (subst (λ (l : Level). AreDistances (judged h l) n d) same are)

@@ -1,2 +1,0 @@
--- Definitions that no reader has to trust: only private functions and proofs use them.
-pub mod Small
