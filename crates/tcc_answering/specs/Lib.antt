@@ -1,3 +1,3 @@
 pub mod Firsts
 pub mod Answered
-pub mod Small
+pub mod private

@@ -41,7 +41,7 @@ pub enum AsSmall<'a> {
 pub trait AnsweredBounds: Bounds {
     ghost use Rattle.std.specs.Prelude.{[], ◌≡◌, IfOk, MatchResult};
     ghost use Rattle.tcc_reads.specs.{Faults.read_faults, Refusals.IsRefusal, Sources.history};
-    ghost use Rattle.tcc_answering.specs.Small.{IsAsSmall};
+    ghost use Rattle.tcc_answering.specs.private.Small.{IsAsSmall};
 
     /// The history of a snapshot, all of whose reads have sources; or else all its read faults.
     fn resolved(
