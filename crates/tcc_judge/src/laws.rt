@@ -4,9 +4,9 @@ ghost use Rattle.tcc_reads.specs.History.{History};
 ghost use Rattle.tcc_graph.specs.{declared.level.Level.Level, declared.link.Link.Link, Levels.judged, Orders.IsCommitOrder, Links.cost, Routes.IsCycle, Routes.IsLeastCycle};
 ghost use Rattle.tcc_cert.specs.{RunsTold.order_claim_of, declared.large.LargeCertificate.LargeCertificate, declared.large.LinksClaim.LinksClaim, declared.large.Run.Run, declared.large.RunsClaim.RunsClaim};
 ghost use Rattle.tcc_least.specs.Shapes.{AreLeast};
-ghost use Rattle.tcc_judge.specs.{Runs.order_of, Claims.cycle_claim_of, Claims.short_claim_of, Cycles.IsRightCycle, declared.verdict.LargeRule.Rule};
+ghost use Rattle.tcc_judge.specs.{Runs.order_of, Claims.cycle_claim_of, Claims.short_claim_of, Cycles.IsRightCycle, declared.verdict.LargeRule.LargeRule};
 ghost use Rattle.tcc_judge.specs.Verdicts.{HasOrderSizes, cycle_rules, least_rules, order_rules, rules_of};
-ghost use Rattle.tcc_rules.specs.{declared.verdict.Verdict.LargeVerdict, Asked.AllHold, Asked.IsVerdictOf};
+ghost use Rattle.tcc_rules.specs.{declared.verdict.Verdict.Verdict, Asked.AllHold, Asked.IsVerdictOf};
 ghost use Rattle.tcc_rules.specs.declared.verdict.Verdict.TheVariants as verdict;
 
 use tcc_graph::LargeGraph;
@@ -61,6 +61,6 @@ pub fn own_short()
 
 /// What keeps the rules is accepted: no other verdict is that of the rules.
 pub fn kept()
-    ensures { (h : History) (claim : LargeCertificate) → AllHold (rules_of h claim) → (said : LargeVerdict LargeRule) → IsVerdictOf (rules_of h claim) said
+    ensures { (h : History) (claim : LargeCertificate) → AllHold (rules_of h claim) → (said : Verdict LargeRule) → IsVerdictOf (rules_of h claim) said
         → said ≡ verdict.Accepted }
 {}
