@@ -86,9 +86,7 @@ pub(crate) fn history_answer<G: Gate>(
     let found = first_of_graph(rt, alloc, graph, level, workers)?;
     match found.0 {
         First::Order(order) => order_answer(alloc, graph, level, order, labels),
-        First::Cycle(links) => cycle_answer(
-            rt, alloc, graph, level, links, labels, workers, gate,
-        ),
+        First::Cycle(links) => cycle_answer(rt, alloc, graph, level, links, labels, workers, gate),
     }
 }
 

@@ -9,7 +9,7 @@ ghost use Rattle.tcc_print.specs.{Saying.IsTold, Saying.SaysAt, private.Courses.
 
 use crate::files::write_files;
 use crate::outcome_within::OutcomeWithin;
-use crate::watching::{RunStage, GateAlone, Watcher};
+use crate::watching::{GateAlone, RunStage, Watcher};
 use std::alloc::Global;
 use std::io::{Read, Sink, Write};
 use std::thread::Threads;
@@ -87,14 +87,7 @@ fn read_on<R: Read + Drop, B: Bounds, G: Watcher>(
 
 /// Writes the answers at the seals that are still to come and the one at the end, if it is due, and returns what was said last. Or it
 /// writes what ends the run before, and returns the exit code.
-fn answer_all<
-    R: Read + Drop,
-    B: AnsweredBounds,
-    T: Threads + Sync,
-    W: Write,
-    N: Write,
-    G: Watcher,
->(
+fn answer_all<R: Read + Drop, B: AnsweredBounds, T: Threads + Sync, W: Write, N: Write, G: Watcher>(
     run: &RunContext<T, G>,
     recording: &mut RecordingWithin<R, B>,
     is_certified: bool,
@@ -318,12 +311,5 @@ pub fn run_large<R: Read + Drop, W: Write, C: Write, S: Write, N: Write, G: Watc
         options: &options,
         gate: watcher,
     };
-    run_within::<R, LargeLimits, _, W, C, S, N, _>(
-        &run,
-        reader,
-        out,
-        certificate,
-        slice,
-        notes,
-    )
+    run_within::<R, LargeLimits, _, W, C, S, N, _>(&run, reader, out, certificate, slice, notes)
 }
