@@ -83,8 +83,8 @@ pub(crate) fn history_answer<G: Gate>(
     requires labels { labels ≡ labels_of graph.now }
     ensures { IfOk result (IsAnswerOfHistory (judged graph.now level)) }
 {
-    let found = first_of_graph(rt, alloc, graph, level, workers)?;
-    match found.0 {
+    let (first, _order) = first_of_graph(rt, alloc, graph, level, workers)?;
+    match first {
         First::Order(order) => order_answer(alloc, graph, level, order, labels),
         First::Cycle(links) => cycle_answer(rt, alloc, graph, level, links, labels, workers, gate),
     }

@@ -1,8 +1,9 @@
+use Rattle.std.proofs.Common.{rules}
 use Rattle.tcc_graph.specs.Levels.{judged}
 use Rattle.tcc_explain.proofs.distances.distance_tables.Goals as goal
 
 pub searched_rows-requires : goal.searched_rows-requires
-searched_rows-requires g c = (judged c.args.graph.now c.args.near.level, c.requires.prices, c.requires.cost)
+searched_rows-requires g c = (search rules, (search rules, (judged c.args.graph.now c.args.near.level, c.requires.prices, c.requires.cost)))
 
 pub far_rows-far-requires : goal.far_rows-far-requires
 far_rows-far-requires g c =

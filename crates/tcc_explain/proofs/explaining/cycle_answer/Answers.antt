@@ -22,7 +22,7 @@ returns g c =
     let tables =
     first_tables c.args.graph.now c.args.level c.requires.cycle.0 c.args.links.items c.requires.cycle.1 c.in_ok-cost.cost costs
     c.in_ok-near.near.level c.in_ok-near.ensures.level c.in_ok-tables.tables c.in_ok-tables.ensures in
-    rw (c.new-2.ensures, c.new.ensures) (
+    rw (c.new.ensures, c.new-links.ensures) (
       (c.requires.cycle.0, c.requires.cycle.1),
       refl,
       c.requires.labels,
