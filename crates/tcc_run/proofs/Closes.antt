@@ -60,5 +60,5 @@ left options records text limits before after code (said, last, ends, end, inl (
 left options records text limits before after code (said, last, ends, end, inr (inl (fails, none))) some fine = absurd (fine fails.0.1)
 left options records text limits before after code (said, last, ends, end, inr (inr (between, out, inl ((whole, is, part, prints), none)))) some fine =
     absurd (fine (device_code between after (device_line options.json) code prints))
-left options records text limits before after code (said, last, ends, end, inr (inr (between, out, inr (gains, given, stops)))) some fine =
-    absurd (given refl)
+left options records text limits before after code (said, last, ends, end, inr (inr (between, out, inr (gains, stops)))) some fine =
+    absurd (stops.0 refl)

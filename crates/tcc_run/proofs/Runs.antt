@@ -89,5 +89,5 @@ no_slice options text before after file file' slice code (said, last, is, ends, 
     (said, last, is, ends, inr (inl (fails, refl)))
 no_slice options text before after file file' slice code (said, last, is, ends, inr (inr (between, out, inl (stops, none)))) =
     (said, last, is, ends, inr (inr (between, out, inl (stops, refl))))
-no_slice options text before after file file' slice code (said, last, is, ends, inr (inr (between, out, inr (certified, given, stops)))) =
-    absurd (given refl)
+no_slice options text before after file file' slice code (said, last, is, ends, inr (inr (between, out, inr (certified, stops)))) =
+    absurd (stops.0 refl)

@@ -199,4 +199,4 @@ module _ (law : (text : List ℕ) (n : ℕ) → KeepsLimits (finished_in (take n
   run_large before after file file' code (said, last, ends, end, inr (inl fails)) = (said, last, ends_large said ends, end, inr (inl fails))
   run_large before after file file' code (said, last, ends, end, inr (inr (between, out, inl stops))) =
       (said, last, ends_large said ends, end, inr (inr (between, out, inl stops)))
-  run_large before after file file' code (said, last, ends, end, inr (inr (between, out, inr (gains, given, stops)))) = absurd (given refl)
+  run_large before after file file' code (said, last, ends, end, inr (inr (between, out, inr (gains, stops)))) = absurd (stops.0 refl)

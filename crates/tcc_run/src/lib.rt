@@ -13,7 +13,6 @@ mod bare;
 mod certifying;
 mod claims;
 mod explained;
-mod files;
 mod headline;
 mod held_graph;
 pub mod large;
@@ -25,6 +24,7 @@ mod room;
 mod running;
 mod slice_records;
 mod watching;
+mod writing;
 
 pub use audit_fault::AuditFault;
 pub use auditing::audit;

@@ -9,14 +9,14 @@ ghost use Rattle.tcc_run.specs.private.Stages.{IsBareOf, IsFoundOf, outcome_answ
 
 use crate::bare::{bare_answer, cycle_answer, order_answer};
 use crate::claims::cycle_claim;
-use crate::held_graph::HeldGraph;
+use crate::held_graph::{HeldGraph, HeldSmallGraph};
 use crate::room::has_order_room;
 use std::alloc::Global;
 use std::io::Write;
 use tcc_answer::{Answer, Labels};
 use tcc_answering::First;
 use tcc_cert::{LargeCertificate, order_claim};
-use tcc_graph::{Graph, LargeGraph, Level, Link};
+use tcc_graph::{LargeGraph, Level, Link};
 use tcc_order::laws::order_or_cycle;
 use tcc_print::printing::{send_answer, send_unresolved};
 use tcc_print::status::answer_status;
@@ -31,7 +31,7 @@ pub(crate) enum Outcome {
     Unresolved(Vec<ReadFault>),
     /// Within the small limits, where its certificate is wanted: its graph, and its first answer with the tables of that.
     Tabled {
-        graph: Graph,
+        graph: HeldSmallGraph,
         answer: Answer,
     },
     /// Within them, where none is wanted: its graph, whose history has the tables, and its first answer without them.

@@ -1,16 +1,19 @@
 //! What a run within limits says about a snapshot: its first answer, or all its read faults.
 ghost use Rattle.std.specs.Prelude.{◌≡◌, IfOk, true};
 ghost use Rattle.tcc_txn.specs.Finished.{KeepsLimits};
+ghost use Rattle.tcc_answering.specs.Answered.{IsAnswered};
 ghost use Rattle.tcc_print.specs.Saying.{IsTold};
 ghost use Rattle.tcc_run.specs.private.Stages.{IsCertifiable, IsOutcome, course};
 
+use crate::held_graph::HeldSmallGraph;
 use crate::outcome::{Outcome, is_small};
 use std::alloc::Global;
 use std::io::Write;
 use std::marker::{Model, PhantomData};
 use std::thread::Threads;
-use tcc_answering::{AnsweredBounds, AsSmall, first_answer};
+use tcc_answering::{Answered, AnsweredBounds, AsSmall, first_answer};
 use tcc_explain::{Gate, explain_with_graph};
+use tcc_graph::Level;
 use tcc_print::{Options, Printable, RunContext};
 use tcc_reads::{ReadFault, ResolveFault};
 use tcc_txn::{Bounds, NoMemory, Snapshot, SnapshotWithin};
@@ -31,35 +34,56 @@ fn tabled<T: Threads + Sync, G: Gate>(
     snapshot.keeps_limits();
     let (level, workers) = (run.options.level, run.options.workers);
     match explain_with_graph(run.rt, run.alloc, snapshot, level, workers, run.gate) {
-        Ok(explanation) => Ok(Outcome::Tabled {
-            graph: explanation.graph,
-            answer: explanation.answer,
-        }),
+        Ok(explanation) => {
+            let graph = HeldSmallGraph::new(run.alloc, explanation.graph)?;
+            let answer = explanation.answer;
+            Ok(Outcome::Tabled { graph, answer })
+        }
         Err(ResolveFault::Reads(faults)) => Ok(Outcome::Unresolved(faults)),
         Err(ResolveFault::NoMemory) => Err(NoMemory),
     }
 }
 
-/// What is to be said about a snapshot, without tables. Where the certificate of a large one isn't wanted, the judge isn't asked whether a
-/// cycle of more than four steps is a least one.
+/// What is to be said about a snapshot by its first answer, without tables. Where the certificate of a large one isn't wanted, the judge
+/// isn't asked whether a cycle of more than four steps is a least one.
+fn of_answered<B: Bounds>(
+    alloc: Global,
+    level: Level,
+    snapshot: &SnapshotWithin<B>,
+    answered: Answered,
+    is_certified: bool,
+) -> Result<Outcome, NoMemory>
+    requires answered { IsAnswered level snapshot.now answered }
+    requires certified { KeepsLimits snapshot.now → is_certified ≡ true → ⊥ }
+    ensures outcome { IfOk result (IsOutcome level snapshot.now) }
+    ensures certifiable { IfOk result (IsCertifiable is_certified) }
+{
+    let Answered {
+        graph,
+        first,
+        order,
+    } = answered;
+    if is_small(snapshot) {
+        Outcome::of_small(alloc, level, graph, first)
+    } else {
+        let order = kept_if(is_certified, order);
+        Outcome::of_large(alloc, level, graph, first, &order)
+    }
+}
+
+/// What is to be said about a snapshot, without tables.
 fn untabled<T: Threads + Sync, G, B: AnsweredBounds>(
     run: &RunContext<T, G>,
     snapshot: &SnapshotWithin<B>,
     is_certified: bool,
 ) -> Result<Outcome, NoMemory>
-    requires { KeepsLimits snapshot.now → is_certified ≡ true → ⊥ }
+    requires certified { KeepsLimits snapshot.now → is_certified ≡ true → ⊥ }
     ensures outcome { IfOk result (IsOutcome run.now.options.now.level snapshot.now) }
     ensures certifiable { IfOk result (IsCertifiable is_certified) }
 {
     let (alloc, level) = (run.alloc, run.options.level);
     match first_answer(run.rt, alloc, snapshot, level, run.options.workers) {
-        Ok(answered) => {
-            if is_small(snapshot) {
-                return Outcome::of_small(alloc, level, answered.graph, answered.first);
-            }
-            let order = kept_if(is_certified, answered.order);
-            Outcome::of_large(alloc, level, answered.graph, answered.first, &order)
-        }
+        Ok(answered) => of_answered(alloc, level, snapshot, answered, is_certified),
         Err(ResolveFault::Reads(faults)) => Ok(Outcome::Unresolved(faults)),
         Err(ResolveFault::NoMemory) => Err(NoMemory),
     }

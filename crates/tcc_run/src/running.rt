@@ -7,9 +7,9 @@ ghost use Rattle.tcc_run.specs.{LargeRuns.IsLargeRun, LargeRuns.IsRun, LargeRuns
 ghost use Rattle.tcc_run.specs.private.Stages.{Concludes, IsCertifiable, IsOutcome, IsSaidWithin, course, outcome_said};
 ghost use Rattle.tcc_print.specs.{Saying.IsTold, Saying.SaysAt, private.Courses.AllAnswered, private.Courses.EndsEarly};
 
-use crate::files::write_files;
 use crate::outcome_within::OutcomeWithin;
 use crate::watching::{GateAlone, RunStage, Watcher};
+use crate::writing::write_files;
 use std::alloc::Global;
 use std::io::{Read, Sink, Write};
 use std::thread::Threads;

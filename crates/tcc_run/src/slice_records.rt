@@ -57,7 +57,7 @@ pub(crate) fn slice_text<B: Bounds>(
         → IfOk result (λ made. IsSliceMade level snapshot.now links.now (option_map (λ text. text.items) made)) }
 {
     match outcome {
-        Outcome::Tabled { graph, .. } => text_of(alloc, snapshot, graph, level, links),
+        Outcome::Tabled { graph, .. } => text_of(alloc, snapshot, graph.get(), level, links),
         Outcome::Bare { graph, .. } => text_of(alloc, snapshot, graph.get(), level, links),
         Outcome::Large { graph, .. } => text_of(alloc, snapshot, graph.get(), level, links),
         // There are no links.

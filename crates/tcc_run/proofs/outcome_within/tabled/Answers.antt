@@ -2,11 +2,6 @@ use Rattle.std.proofs.Common.{◌∙◌, subst}
 use Rattle.tcc_reads.specs.Refusals.{IsRefusal}
 use Rattle.tcc_run.proofs.outcome_within.tabled.Goals as goal
 
-pub returns-in-Ok-clause-outcome : goal.returns-in-Ok-clause-outcome
-returns-in-Ok-clause-outcome g c =
-    let is = c.in-Ok.ensures in
-    (is.1.0, c.keeps_limits.ensures, is.0, is.1.1)
-
 pub returns-in-Err-Reads-clause-outcome : goal.returns-in-Err-Reads-clause-outcome
 returns-in-Err-Reads-clause-outcome g c =
     let is = subst (IsRefusal c.args.snapshot.now) c.in-Err-Reads.field-0-is c.in-Err-Reads.ensures in

@@ -8,12 +8,12 @@ use Rattle.tcc_run.proofs.slice_records.slice_text.Goals as goal
 pub returns-in-Tabled : goal.returns-in-Tabled
 returns-in-Tabled g c = λ is has.
     let w = links_cycle c.args.level c.args.snapshot.now c.args.outcome.now c.args.links.now is has in
-    c.text_of.ensures (c.deref.ensures.value ∙ (subst (λ (o : Outcome). IsOutcome c.args.level c.args.snapshot.now o) c.in-Tabled.is is).2) w.0 w.1
+    c.text_of.ensures (c.get.ensures ∙ (subst (λ (o : Outcome). IsOutcome c.args.level c.args.snapshot.now o) c.in-Tabled.is is).2) w.0 w.1
 
 pub returns-in-Bare : goal.returns-in-Bare
 returns-in-Bare g c = λ is has.
     let w = links_cycle c.args.level c.args.snapshot.now c.args.outcome.now c.args.links.now is has in
-    c.text_of-in-Bare.ensures (c.get.ensures ∙ (subst (λ (o : Outcome). IsOutcome c.args.level c.args.snapshot.now o) c.in-Bare.is is).2) w.0 w.1
+    c.text_of-in-Bare.ensures (c.get-in-Bare.ensures ∙ (subst (λ (o : Outcome). IsOutcome c.args.level c.args.snapshot.now o) c.in-Bare.is is).2) w.0 w.1
 
 pub returns-in-Large : goal.returns-in-Large
 returns-in-Large g c = λ is has.

@@ -1,6 +1,6 @@
 use Rattle.std.proofs.Common.{sym}
 use Rattle.tcc_run.proofs.Files.{slice_given}
-use Rattle.tcc_run.proofs.files.write_slice.Goals as goal
+use Rattle.tcc_run.proofs.writing.write_slice.Goals as goal
 
 pub returns-in-Some-slice : goal.returns-in-Some-slice
 returns-in-Some-slice g c = λ is.

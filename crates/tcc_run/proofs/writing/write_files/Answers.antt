@@ -3,7 +3,7 @@ use Rattle.std.proofs.Common.{inl}
 use Rattle.tcc_print.proofs.Courses.{Gains-none}
 use Rattle.tcc_run.specs.private.Stages.{outcome_said}
 use Rattle.tcc_run.proofs.Files.{both_files, files_stop}
-use Rattle.tcc_run.proofs.files.write_files.Goals as goal
+use Rattle.tcc_run.proofs.writing.write_files.Goals as goal
 
 pub returns-in_err-write_certificate : goal.returns-in_err-write_certificate
 returns-in_err-write_certificate g c = λ is.
