@@ -69,14 +69,17 @@ last_known : (limits : Limits) (options : Options) (text : List ℕ) (before now
     → IsOutcome options.level (finished_within limits text) last.outcome
 last_known limits options text before now last (said, is, ends, known, out) = known
 
-pub concluded : (limits : Limits) (options : Options) (text : List ℕ) (s : Sessions) (before now after : Option (List ℕ)) (files files' : Files) (last : PreviousAnswer Outcome) (code : ℕ)
+pub concluded : (limits : Limits) (options : Options) (text : List ℕ) (s : Sessions) (before now after : Option (List ℕ)) (files files' : Files)
+    (last : PreviousAnswer Outcome) (o : Outcome) (code : ℕ) → o ≡ last.outcome
     → s ≡ finished_within limits text → AllAnswered (course limits options) text before now last
-    → (IsOutcome options.level s last.outcome → Concludes options s (outcome_said options last.outcome) now after files files' code)
+    → (IsOutcome options.level s o → Concludes options s (outcome_said options o) now after files files' code)
     → IsRun limits (IsSaidWithin limits options) options text before after files files' code
-concluded limits options text s before now after files files' last code all answered concludes =
+concluded limits options text s before now after files files' last o code same all answered concludes =
+    let its : IsOutcome options.level s last.outcome → Concludes options s (outcome_said options last.outcome) now after files files' code
+    = subst (λ (p : Outcome). IsOutcome options.level s p → Concludes options s (outcome_said options p) now after files files' code) same concludes in
     concluded_all limits options text before now after files files' last code answered
     (subst (λ (s : Sessions). Concludes options s (outcome_said options last.outcome) now after files files' code) all
-    (concludes (subst (λ (s : Sessions). IsOutcome options.level s last.outcome) (sym all) (last_known limits options text before now last answered))))
+    (its (subst (λ (s : Sessions). IsOutcome options.level s last.outcome) (sym all) (last_known limits options text before now last answered))))
 
 -- where no file is given for a slice there is none after the run either
 pub no_slice : (options : Options) (text : List ℕ) (before after : Option (List ℕ)) (file file' slice : Contents) (code : ℕ)

@@ -51,7 +51,8 @@ pub fn explain_large_snapshot<T: Threads + Sync, G: Watcher>(
 ) -> Result<Explained, NoMemory>
     ensures { IfOk result (IsExplained run.now.options.now snapshot.now) }
 {
-    let outcome = decide(run, snapshot, false)?.into_outcome();
+    let decided = decide(run, snapshot, false)?;
+    let outcome = decided.into_outcome();
     Ok(Explained {
         text: text_of(run.alloc, run.options, &outcome)?,
         status: outcome.status(run.options.required),

@@ -7,6 +7,7 @@ ghost use Rattle.tcc_run.specs.{LargeRuns.IsLargeRun, LargeRuns.IsRun, LargeRuns
 ghost use Rattle.tcc_run.specs.private.Stages.{Concludes, IsCertifiable, IsOutcome, IsSaidWithin, course, outcome_said};
 ghost use Rattle.tcc_print.specs.{Saying.IsTold, Saying.SaysAt, private.Courses.AllAnswered, private.Courses.EndsEarly};
 
+use crate::outcome::Outcome;
 use crate::outcome_within::OutcomeWithin;
 use crate::watching::{GateAlone, RunStage, Watcher};
 use crate::writing::write_files;
@@ -133,20 +134,19 @@ fn answer_all<R: Read + Drop, B: AnsweredBounds, T: Threads + Sync, W: Write, N:
 fn conclude<T, B: Bounds, W: Write, C: Write, S: Write, N: Write, G: Watcher>(
     run: &RunContext<T, G>,
     snapshot: &SnapshotWithin<B>,
-    last: PreviousAnswer<OutcomeWithin<B>>,
+    outcome: Outcome,
     certificate: &mut Option<C>,
     slice: &mut Option<S>,
     out: &mut W,
     notes: &mut N,
 ) -> u8
-    requires { IsCertifiable (is_some certificate.old) last.outcome }
-    ensures { IsOutcome run.now.options.now.level snapshot.now last.outcome
-        → Concludes run.now.options.now snapshot.now (outcome_said run.now.options.now last.outcome) (W.contents out.old) (W.contents out.new)
+    requires certifiable { IsCertifiable (is_some certificate.old) outcome }
+    ensures { IsOutcome run.now.options.now.level snapshot.now outcome
+        → Concludes run.now.options.now snapshot.now (outcome_said run.now.options.now outcome) (W.contents out.old) (W.contents out.new)
         (record { certificate = option_map C.contents certificate.old; slice = option_map S.contents slice.old })
         (record { certificate = option_map C.contents certificate.new; slice = option_map S.contents slice.new }) result }
 {
     let required = run.options.required;
-    let outcome = last.outcome.into_outcome();
     let status = outcome.status(required);
     match write_files(run, snapshot, &outcome, certificate, slice, out, notes) {
         Ok(()) => {
@@ -185,7 +185,7 @@ fn run_recording<
         Ok(last) => conclude(
             run,
             recording.snapshot(),
-            last,
+            last.outcome.into_outcome(),
             certificate,
             slice,
             out,
