@@ -2,7 +2,7 @@
 unknown outcomes, and the contradicted reads of many sessions."""
 import io
 from collections import Counter
-from typing import Iterator, Optional
+from typing import Iterator, List, Optional, Tuple
 
 from counted import Outcome
 from helpers import differs
@@ -52,6 +52,32 @@ def parts() -> Iterator[Outcome]:
         reads = [line for line in mine.split("\n") if line.startswith("r,k.")]
         yield differs("reads of %d sessions" % count, (wanted, count, count), (sizes, len(reads), len(set(reads))))
         yield differs("what represents the reader of %d" % count, {"reader/1"}, {lists.real("reader/%d" % place) for place in range(1, len(wanted) + 1)})
+
+
+def wrong_by_themselves() -> Iterator[Outcome]:
+    """What lists show by themselves, though most are the beginning of one that was read before: an element that its reader appends only later,
+    one whose name another one begins with, and one appended twice, after which its transaction's last one is another."""
+    from tcc.imports.list_history import APPEND, LIST, OK, Fault, Step, Transaction
+    from tcc.imports.lists import Lists
+
+    def history(*every: List[Tuple[str, str]]) -> Lists:
+        made = [Transaction(number, OK, number + 1, 0, [Step(does, "k", value) for does, value in steps]) for number, steps in enumerate(every)]
+        return Lists(made, ["s%d" % number for number in range(len(every))])
+
+    one, two = [(APPEND, "1")], [(LIST, " 1 2")]
+    for about, every, faults, records in (
+            ("an element that its reader appends later", [one, two, [(LIST, " 1 2"), (APPEND, "2")]], [Fault("Future", 2, 0, "2")], ["s1,r,k,2"]),
+            ("a list that begins as an element does", [[(APPEND, "12")], [(LIST, " 12")], [(LIST, " 1")]], [Fault("ThinAir", 2, 0, "1")], ["s1,r,k,12"]),
+            ("an element that was appended twice", [[(APPEND, "1"), (APPEND, "2")], [(APPEND, "2")], [(LIST, " 1")]], [Fault("Duplicate", 1, 0, "2")],
+             ["s0,w,k,1", "s2,r,k,1"]),
+            ("one that nobody appended, within a transaction's", [[(APPEND, "1"), (APPEND, "3")], [(LIST, " 1 9 3")]], [Fault("ThinAir", 1, 0, "9")],
+             ["s0,w,k,3", "s1,r,k,3"])):
+        lists = history(*every)
+        lines = "".join(lists.records()).split()
+        yield differs(about, (faults, []), (lists.faults, [line for line in records if line not in lines]))
+    lists = history(one, [(APPEND, "2"), (APPEND, "3")], [(LIST, " 1 2 3")])
+    list(lists.records())
+    yield differs("observers where who read it says the order of those who appended", {}, lists.observers)
 
 
 def apart() -> Iterator[Outcome]:
@@ -149,4 +175,5 @@ def outcomes() -> Iterator[Outcome]:
     yield from many_sessions()
     yield from far_lines()
     yield from parts()
+    yield from wrong_by_themselves()
     yield from apart()

@@ -9,7 +9,7 @@ import pathlib
 import re
 import stat
 import sys
-from typing import Iterator
+from typing import Iterator, List
 
 from counted import Outcome
 from helpers import differs, run
@@ -199,7 +199,7 @@ def long_names(folder: pathlib.Path) -> Iterator[Outcome]:
     yield differs("names that are cut", wanted, [line.split(",")[0] for line in out.read_text().splitlines() if line.endswith("begin")])
 
 
-def pending(folder: pathlib.Path) -> Iterator[Outcome]:
+def pending(folder: pathlib.Path, library: str, tcc: List[str]) -> Iterator[Outcome]:
     """A value that is noted beside the records alone was written by what hadn't ended when the recorder did, which is said; of others, and
     where the recorder was closed, nothing is."""
     from tcc import Recorder
@@ -213,6 +213,11 @@ def pending(folder: pathlib.Path) -> Iterator[Outcome]:
     recorder.close()
     yield differs("whether what nobody wrote is noted beside the records", ([True, False, False, False], False),
                   (said, bool(hint_of_pending(path, {("x", 5)}))))
+    other = folder / "left-open.csv"
+    other.write_text("b,begin\nb,r,x,5\nb,commit\n")
+    (folder / "left-open.csv.pending").write_text("a,1,x,5\n")
+    done = run([sys.executable, os.path.join(library, "bin/tcc-all"), "--tcc", os.path.abspath(tcc[-1]), str(other)], library)
+    yield "what tcc-all says", None if done.returncode == 2 and "tcc-look -o whole.csv %s" % other in done.stdout else done.stdout + done.stderr
     yield "what to do about it", None if hint.endswith("tcc-look -o whole.csv %s writes a history with them" % path) and str(path) + ".pending" in hint else hint
 
 
@@ -265,7 +270,7 @@ def commands_of_others(folder: pathlib.Path, library: str) -> Iterator[Outcome]:
     yield differs("a path in the place of records", "%s is a path, and no records: explain(..) judges a file" % history, said)
 
 
-def outcomes(folder: pathlib.Path, library: str) -> Iterator[Outcome]:
-    for part in (first(), as_told(folder), meanwhile(), sliced(folder), limits(), drawn(), programs(), in_full(folder), long_names(folder), pending(folder), no_records(folder),
+def outcomes(folder: pathlib.Path, library: str, tcc: List[str]) -> Iterator[Outcome]:
+    for part in (first(), as_told(folder), meanwhile(), sliced(folder), limits(), drawn(), programs(), in_full(folder), long_names(folder), pending(folder, library, tcc), no_records(folder),
                  commands_of_others(folder, library)):
         yield from part
