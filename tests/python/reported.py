@@ -9,7 +9,7 @@ import pathlib
 import re
 import stat
 import sys
-from typing import Iterator
+from typing import Iterator, List
 
 from counted import Outcome
 from helpers import differs, run
@@ -65,6 +65,7 @@ def as_told(folder: pathlib.Path) -> Iterator[Outcome]:
     ops = [one % ("invoke", "w", 1, 0), one % ("invoke", "w", 2, 1), one % ("ok", "w", 2, 1), one % ("ok", "w", 1, 0), one % ("ok", "r", 1, 1),
            "{:type :ok, :f :txn, :value [[:w y 1] [:r x %s]], :process 2, :note \"%s\"}" % (2, "o" * MOST_LETTERS)]
     for about, text, wanted in (
+            ("a history of one operation", ops[4].replace(":process 1", ":process 0") + "\n", ["p0/1", "line 1: " + ops[4].replace(":process 1", ":process 0")]),
             ("a history", "\n".join(ops) + "\n", ["p0/1", "line 1: " + ops[0], "line 4: " + ops[3], "p1/2", "line 5: " + ops[4], "p2/1", "line 6: " + ops[5][:MOST_LETTERS] + " .."]),
             ("a history in one line", "[%s]" % " ".join(ops[1:4:2]), [])):
         path = folder / "told.edn"
@@ -199,7 +200,7 @@ def long_names(folder: pathlib.Path) -> Iterator[Outcome]:
     yield differs("names that are cut", wanted, [line.split(",")[0] for line in out.read_text().splitlines() if line.endswith("begin")])
 
 
-def pending(folder: pathlib.Path) -> Iterator[Outcome]:
+def pending(folder: pathlib.Path, library: str, tcc: List[str]) -> Iterator[Outcome]:
     """A value that is noted beside the records alone was written by what hadn't ended when the recorder did, which is said; of others, and
     where the recorder was closed, nothing is."""
     from tcc import Recorder
@@ -213,6 +214,11 @@ def pending(folder: pathlib.Path) -> Iterator[Outcome]:
     recorder.close()
     yield differs("whether what nobody wrote is noted beside the records", ([True, False, False, False], False),
                   (said, bool(hint_of_pending(path, {("x", 5)}))))
+    other = folder / "left-open.csv"
+    other.write_text("b,begin\nb,r,x,5\nb,commit\n")
+    (folder / "left-open.csv.pending").write_text("a,1,x,5\n")
+    done = run([sys.executable, os.path.join(library, "bin/tcc-all"), "--tcc", os.path.abspath(tcc[-1]), str(other)], library)
+    yield "what tcc-all says", None if done.returncode == 2 and "tcc-look -o whole.csv %s" % other in done.stdout else done.stdout + done.stderr
     yield "what to do about it", None if hint.endswith("tcc-look -o whole.csv %s writes a history with them" % path) and str(path) + ".pending" in hint else hint
 
 
@@ -257,15 +263,16 @@ def commands_of_others(folder: pathlib.Path, library: str) -> Iterator[Outcome]:
                   ["tcc-sessions", history, history, "-o", "out.csv"], ["tcc-settle", history], ["tcc-shrink", history], ["tcc-all", history]):
         done = run([sys.executable, os.path.join(library, "bin", words[0]), *words[1:]], library, cwd=folder)
         yield "%s of a history of Jepsen" % words[0], None if done.returncode in (1, 3, 6) and "tcc-jepsen" in done.stderr else done.stderr
-    try:
-        judge(history, tcc=sys.executable)
-        said = "an answer"
-    except NoAnswer as error:
-        said = str(error)
-    yield differs("a path in the place of records", "%s is a path, and no records: explain(..) judges a file" % history, said)
+    for path in (history, folder / "history.edn"):
+        try:
+            judge(path, tcc=sys.executable)
+            said = "an answer"
+        except NoAnswer as error:
+            said = str(error)
+        yield differs("a path in the place of records, %r" % path, "%s is a path, and no records: explain(..) judges a file" % history, said)
 
 
-def outcomes(folder: pathlib.Path, library: str) -> Iterator[Outcome]:
-    for part in (first(), as_told(folder), meanwhile(), sliced(folder), limits(), drawn(), programs(), in_full(folder), long_names(folder), pending(folder), no_records(folder),
+def outcomes(folder: pathlib.Path, library: str, tcc: List[str]) -> Iterator[Outcome]:
+    for part in (first(), as_told(folder), meanwhile(), sliced(folder), limits(), drawn(), programs(), in_full(folder), long_names(folder), pending(folder, library, tcc), no_records(folder),
                  commands_of_others(folder, library)):
         yield from part

@@ -454,7 +454,7 @@ def outcomes(tcc: List[str]) -> Iterator[Outcome]:
                  "calls": calls.outcomes(folder, tcc), "looks": looks.outcomes(folder, library, tcc),
                  "watches": watches.outcomes(folder, library, tcc), "harness": harnessed.outcomes(folder, tcc),
                  "several": several.outcomes(folder, library, tcc), "nodes": nodes.outcomes(folder, library, tcc),
-                 "reported": reported.outcomes(folder, library), "converted": converted.outcomes(folder, library), "imports": imports.outcomes(),
+                 "reported": reported.outcomes(folder, library, tcc), "converted": converted.outcomes(folder, library), "imports": imports.outcomes(),
                  "fleets": fleets.outcomes(folder, library, tcc, python_with("distributed")),
                  "judged": judged.outcomes(folder, library, tcc, python_with("pytest"), python_with("hypothesis")),
                  "versions": versioned.outcomes(folder, library, tcc), "stores": stores.outcomes(folder, tcc), "answers": answers(folder, tcc), "commands": commands(folder, library, tcc),
