@@ -18,8 +18,9 @@ use Rattle.tcc_batch.specs.declared.judging.BatchOptions.{BatchOptions}
 -- a run for which memory is out before it reads writes the line `memory`
 memory_written : (asked : BatchOptions) (limits : Limits) (bytes : List ℕ) → IsWrittenWithin limits (options_of asked) bytes (codes "memory\n") 5
 memory_written asked Small bytes =
-    small_runs.early (options_of asked) bytes (Some []) (Some (codes "memory\n")) None 5
-    (nothing_read (small.course (options_of asked)) bytes (Some []) (Some (codes "memory\n")) 5 (inl (refl, refl)))
+    small_runs.no_slice (options_of asked) bytes (Some []) (Some (codes "memory\n")) None None None 5
+    (small_runs.early Small (options_of asked) bytes (Some []) (Some (codes "memory\n")) (record { certificate = None; slice = None }) 5
+    (nothing_read (small.course Small (options_of asked)) bytes (Some []) (Some (codes "memory\n")) 5 (inl (refl, refl))))
 memory_written asked Large bytes =
     large_runs.early true (options_of asked) bytes (Some []) (Some (codes "memory\n")) 5
     (nothing_read (large.course true (options_of asked) (checkpoints_of bytes)) bytes (Some []) (Some (codes "memory\n")) 5 (inl (refl, refl)))
