@@ -54,11 +54,33 @@ def parts() -> Iterator[Outcome]:
         yield differs("what represents the reader of %d" % count, {"reader/1"}, {lists.real("reader/%d" % place) for place in range(1, len(wanted) + 1)})
 
 
+def elements() -> Iterator[Outcome]:
+    """The elements of lists, however they are spelled, and whichever list was read before."""
+    from tcc.imports.imported import Imported
+    from tcc.imports.jepsen import Reading, imported
+    from tcc.common.progress import Doing
+    for spelled, wanted in ((["1 2 3", "1 ", "1 2", "1,2", "1  2", " 1 2", ""], [" 1 2 3", " 1", " 1 2", " 1 2", " 1 2", " 1 2", ""]),
+                            (["1", "12", "12 3", "12 34", "12 34 5,6"], [" 1", " 12", " 12 3", " 12 34", " 12 34 5 6"]),
+                            (["+1 2", "1 2", "1 02"], [" 1 2", " 1 2", " 1 2"])):
+        text = "".join("{:type :ok, :f :txn, :value [[:r x [%s]]], :process 0}\n" % each for each in spelled)
+        text = "{:type :ok, :f :txn, :value [[:append x 1]], :process 1}\n" + text
+        read = imported(Reading(io.BytesIO(text.encode()), Imported({"null"}), Doing(""), ""), True)
+        yield differs("elements of %s" % spelled, wanted, [one.steps[0].value for one in read.of_lists.transactions[1:]])
+    text = "{:type :ok, :f :txn, :value [[:append x 1]], :process 1}\n" + "".join(
+        "{:type :ok, :f :txn, :value [[:r x [%s]]], :process 0}\n" % each for each in (":a", "*0", ":a *0"))
+    read = imported(Reading(io.BytesIO(text.encode()), Imported({"null"}), Doing(""), ""), True)
+    first, second, both = (one.steps[0].value for one in read.of_lists.transactions[1:])
+    yield differs("a symbol that is spelled as a mark", (True, first + second), (first != second, both))
+
+
 def wrong_by_themselves() -> Iterator[Outcome]:
     """What lists show by themselves, though most are the beginning of one that was read before: an element that its reader appends only later,
     one whose name another one begins with, and one appended twice, after which its transaction's last one is another."""
     from tcc.imports.list_history import APPEND, LIST, OK, Fault, Step, Transaction
     from tcc.imports.lists import Lists
+
+    def one_step(does: str, value: str) -> List[Step]:
+        return [Step(does, "k", value)]
 
     def history(*every: List[Tuple[str, str]]) -> Lists:
         made = [Transaction(number, OK, number + 1, 0, [Step(does, "k", value) for does, value in steps]) for number, steps in enumerate(every)]
@@ -75,6 +97,10 @@ def wrong_by_themselves() -> Iterator[Outcome]:
         lists = history(*every)
         lines = "".join(lists.records()).split()
         yield differs(about, (faults, []), (lists.faults, [line for line in records if line not in lines]))
+    # s0 appends 1 and then 2; who reads 1 alone lacks the next one of s0, which may have begun before.
+    appends = [Transaction(0, OK, 1, 0, one_step(APPEND, "1")), Transaction(0, OK, 2, 0, one_step(APPEND, "2"))]
+    lists = Lists([*appends, Transaction(1, OK, 3, 0, one_step(LIST, " 1 2")), Transaction(2, OK, 4, 0, one_step(LIST, " 1"))], ["s0", "s1", "s2"])
+    yield differs("what a list lacks", ["s2,r,k.2,0"], [line for line in "".join(lists.records()).split() if line.endswith(",0")])
     lists = history(one, [(APPEND, "2"), (APPEND, "3")], [(LIST, " 1 2 3")])
     list(lists.records())
     yield differs("observers where who read it says the order of those who appended", {}, lists.observers)
@@ -101,6 +127,11 @@ def apart() -> Iterator[Outcome]:
     lines = "".join(lists.records(with_faults=True)).splitlines()
     wrong = {line.split(",")[2] for line in lines if line[0] not in "abc" and line.count(",") == 3}
     yield differs("registers of elements", (1, set()), (len(lists.registers()), keys & lists.registers()))
+    every = [Transaction(0, OK, 1, 0, [Step(APPEND, "f", "1")]), Transaction(1, OK, 2, end, [Step(LIST, "f", " 1")]),
+             Transaction(2, OK, 3, end, [Step(LIST, "f", " 1 1")])]
+    again = Lists(every, ["a", "b", "c"])
+    made = {line.split(",")[2] for line in "".join(again.records(with_faults=True)).splitlines() if line[0] not in "abc" and line.count(",") == 3}
+    yield differs("a register that is called as what is wrong", ({"f.1"}, set()), (again.registers(), made & again.registers()))
     yield differs("keys of what is wrong", (1, set()), (len(wrong), wrong & (keys | lists.registers())))
 
 
@@ -175,5 +206,6 @@ def outcomes() -> Iterator[Outcome]:
     yield from many_sessions()
     yield from far_lines()
     yield from parts()
+    yield from elements()
     yield from wrong_by_themselves()
     yield from apart()

@@ -65,6 +65,7 @@ def as_told(folder: pathlib.Path) -> Iterator[Outcome]:
     ops = [one % ("invoke", "w", 1, 0), one % ("invoke", "w", 2, 1), one % ("ok", "w", 2, 1), one % ("ok", "w", 1, 0), one % ("ok", "r", 1, 1),
            "{:type :ok, :f :txn, :value [[:w y 1] [:r x %s]], :process 2, :note \"%s\"}" % (2, "o" * MOST_LETTERS)]
     for about, text, wanted in (
+            ("a history of one operation", ops[4].replace(":process 1", ":process 0") + "\n", ["p0/1", "line 1: " + ops[4].replace(":process 1", ":process 0")]),
             ("a history", "\n".join(ops) + "\n", ["p0/1", "line 1: " + ops[0], "line 4: " + ops[3], "p1/2", "line 5: " + ops[4], "p2/1", "line 6: " + ops[5][:MOST_LETTERS] + " .."]),
             ("a history in one line", "[%s]" % " ".join(ops[1:4:2]), [])):
         path = folder / "told.edn"
@@ -262,12 +263,13 @@ def commands_of_others(folder: pathlib.Path, library: str) -> Iterator[Outcome]:
                   ["tcc-sessions", history, history, "-o", "out.csv"], ["tcc-settle", history], ["tcc-shrink", history], ["tcc-all", history]):
         done = run([sys.executable, os.path.join(library, "bin", words[0]), *words[1:]], library, cwd=folder)
         yield "%s of a history of Jepsen" % words[0], None if done.returncode in (1, 3, 6) and "tcc-jepsen" in done.stderr else done.stderr
-    try:
-        judge(history, tcc=sys.executable)
-        said = "an answer"
-    except NoAnswer as error:
-        said = str(error)
-    yield differs("a path in the place of records", "%s is a path, and no records: explain(..) judges a file" % history, said)
+    for path in (history, folder / "history.edn"):
+        try:
+            judge(path, tcc=sys.executable)
+            said = "an answer"
+        except NoAnswer as error:
+            said = str(error)
+        yield differs("a path in the place of records, %r" % path, "%s is a path, and no records: explain(..) judges a file" % history, said)
 
 
 def outcomes(folder: pathlib.Path, library: str, tcc: List[str]) -> Iterator[Outcome]:

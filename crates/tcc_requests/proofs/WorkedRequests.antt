@@ -14,11 +14,11 @@ explain : next (codes "3 explain\nabcd") ≡ More (Asks (Explain Causal false fa
 explain = refl
 
 -- options come in any order
-large : next (codes "1 explain slice large level=atomic\na") ≡ More (Asks (ExplainLarge Atomic false false true) (codes "a") []) []
+large : next (codes "1 explain --slice --large --level=atomic\na") ≡ More (Asks (ExplainLarge Atomic false false true) (codes "a") []) []
 large = refl
 
 -- one byte of records, and two of a certificate
-check : next (codes "1+2 check large\nabcd") ≡ More (Asks (Check true) (codes "a") (codes "bc")) (codes "d")
+check : next (codes "1+2 check --large\nabcd") ≡ More (Asks (Check true) (codes "a") (codes "bc")) (codes "d")
 check = refl
 
 -- the body ends early, by a byte
@@ -29,7 +29,7 @@ short = refl
 unknown : next (codes "1 guess\nab") ≡ More (Refuses Unknown) (codes "b")
 unknown = refl
 
-slice : next (codes "1 explain slice\nab") ≡ More (Refuses Unknown) (codes "b")
+slice : next (codes "1 explain --slice\nab") ≡ More (Refuses Unknown) (codes "b")
 slice = refl
 
 bare_check : next (codes "1 check\nab") ≡ More (Refuses Unknown) (codes "b")
@@ -53,6 +53,6 @@ no_line : next (codes "1 explain") ≡ Unreadable
 no_line = refl
 
 -- the second request is refused, and the third is taken
-three : Begins (codes "1 survey json\na0 guess\n2 explain certificate\nbcd")
+three : Begins (codes "1 survey --json\na0 guess\n2 explain --certificate\nbcd")
     (Asks (Survey Causal true false) (codes "a") [] ∷ Refuses Unknown ∷ Asks (Explain Causal false true) (codes "bc") [] ∷ []) (codes "d")
 three = (_, refl, (_, refl, (_, refl, refl)))

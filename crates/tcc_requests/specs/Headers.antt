@@ -65,12 +65,12 @@ no_flags = record { level = Causal; json = false; large = false; certificate = f
 -- one more option
 abbrev pub with_word : Flags → List ℕ → Option Flags
 with_word flags word =
-    if same word (codes "level=causal") then Some (record flags { level = Causal })
-    else if same word (codes "level=atomic") then Some (record flags { level = Atomic })
-    else if same word (codes "json") then Some (record flags { json = true })
-    else if same word (codes "large") then Some (record flags { large = true })
-    else if same word (codes "certificate") then Some (record flags { certificate = true })
-    else if same word (codes "slice") then Some (record flags { slice = true })
+    if same word (codes "--level=causal") then Some (record flags { level = Causal })
+    else if same word (codes "--level=atomic") then Some (record flags { level = Atomic })
+    else if same word (codes "--json") then Some (record flags { json = true })
+    else if same word (codes "--large") then Some (record flags { large = true })
+    else if same word (codes "--certificate") then Some (record flags { certificate = true })
+    else if same word (codes "--slice") then Some (record flags { slice = true })
     else None
 
 abbrev pub flags_of : Flags → List (List ℕ) → Option Flags

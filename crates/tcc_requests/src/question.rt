@@ -66,32 +66,32 @@ fn no_flags() -> Flags
 fn with_word(flags: Flags, word: &[u8]) -> Option<Flags>
     ensures { result ≡ with_word flags word.now }
 {
-    if word == b"level=causal".as_slice() {
+    if word == b"--level=causal".as_slice() {
         Some(Flags {
             level: Level::Causal,
             ..flags
         })
-    } else if word == b"level=atomic".as_slice() {
+    } else if word == b"--level=atomic".as_slice() {
         Some(Flags {
             level: Level::Atomic,
             ..flags
         })
-    } else if word == b"json".as_slice() {
+    } else if word == b"--json".as_slice() {
         Some(Flags {
             json: true,
             ..flags
         })
-    } else if word == b"large".as_slice() {
+    } else if word == b"--large".as_slice() {
         Some(Flags {
             large: true,
             ..flags
         })
-    } else if word == b"certificate".as_slice() {
+    } else if word == b"--certificate".as_slice() {
         Some(Flags {
             certificate: true,
             ..flags
         })
-    } else if word == b"slice".as_slice() {
+    } else if word == b"--slice".as_slice() {
         Some(Flags {
             slice: true,
             ..flags
