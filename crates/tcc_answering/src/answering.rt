@@ -1,37 +1,29 @@
-//! The answer for a snapshot at a level. Here it is decided whether it is found by the tables of a small one, which its certificate needs,
-//! or by the searches of a large one.
-ghost use Rattle.std.specs.Prelude.{[], true, false, ◌≡◌, IfOk, MatchResult};
-ghost use Rattle.tcc_txn.specs.Finished.{KeepsLimits};
+//! The first answer for a snapshot of any size at a level, with its graph.
+ghost use Rattle.std.specs.Prelude.{[], ◌≡◌, IfOk, MatchResult};
 ghost use Rattle.tcc_reads.specs.{Faults.read_faults, Refusals.IsRefusal, Sources.history};
-ghost use Rattle.tcc_answering.specs.Answered.{IsAnswered};
+ghost use Rattle.tcc_graph.specs.Levels.{judged};
+ghost use Rattle.tcc_answering.specs.{Answered.IsAnswered, Firsts.IsFirst};
 
 use crate::firsts::{First, first_of};
 use std::alloc::Global;
 use std::thread::Threads;
-use tcc_answer::Answer;
-use tcc_explain::{ExplainFault, Gate, explain};
+use tcc_base::Workers;
 use tcc_graph::{LargeGraph, Level};
 use tcc_large::decide_by;
-use tcc_print::RunContext;
-use tcc_reads::{LargeResolved, ReadFault, ResolveFault, resolve, resolve_large};
+use tcc_reads::{LargeResolved, ResolveFault, resolve, resolve_large};
 use tcc_txn::{
     Bounds, LargeLimits, LargeSnapshot, NoMemory, SmallLimits, Snapshot, SnapshotWithin,
 };
 
-/// The answer for a snapshot.
+/// The first answer for a snapshot, all of whose reads have sources.
 #[derive(Drop)]
-pub enum Answered {
-    /// All its read faults.
-    Unresolved(Vec<ReadFault>),
-    /// Within the small limits, where its certificate is wanted: its first answer with all that the certificate needs.
-    Tabled(Answer),
-    /// Else: its graph, and its first commit order or the first of its least cycles. With a cycle of at least four steps an order of all
-    /// transactions may come, to judge by. It need not be trusted.
-    Bare {
-        graph: LargeGraph,
-        first: First,
-        order: Option<Vec<u32>>,
-    },
+pub struct Answered {
+    /// The graph of its history.
+    pub graph: LargeGraph,
+    /// Its first commit order or the first of its least cycles.
+    pub first: First,
+    /// With a cycle of at least four steps an order of all transactions may come, to judge by. It need not be trusted.
+    pub order: Option<Vec<u32>>,
 }
 
 /// A snapshot seen as one within the small limits.
@@ -91,23 +83,6 @@ impl AnsweredBounds for LargeLimits {
     }
 }
 
-/// The answer for a snapshot within the small limits whose certificate is wanted, by the workers and the gate of a run.
-fn tabled<T: Threads + Sync, G: Gate>(
-    run: &RunContext<T, G>,
-    snapshot: &Snapshot,
-    level: Level,
-) -> Result<Answered, NoMemory>
-    ensures { IfOk result (IsAnswered true level snapshot.now) }
-{
-    snapshot.keeps_limits();
-    let workers = run.options.workers;
-    match explain(run.rt, run.alloc, snapshot, level, workers, run.gate) {
-        Ok(answer) => Ok(Answered::Tabled(answer)),
-        Err(ExplainFault::Reads(faults)) => Ok(Answered::Unresolved(faults)),
-        Err(ExplainFault::NoMemory) => Err(NoMemory),
-    }
-}
-
 /// The graph of a snapshot, all of whose reads have sources; or else all its read faults.
 fn graph_of<B: AnsweredBounds>(
     alloc: Global,
@@ -121,46 +96,38 @@ fn graph_of<B: AnsweredBounds>(
     Ok(LargeGraph::build(alloc, resolved)?)
 }
 
-/// The answer for a snapshot without tables, by the workers of a run.
-fn bare<T: Threads + Sync, G: Gate, B: AnsweredBounds>(
-    run: &RunContext<T, G>,
+/// The first answer for the history of a graph at a level, the same for every number of workers. With a cycle of at least four steps an
+/// order of all transactions may come, to judge by. It need not be trusted.
+pub fn first_of_graph(
+    rt: &(impl Threads + Sync),
+    alloc: Global,
+    graph: &LargeGraph,
+    level: Level,
+    workers: Workers,
+) -> Result<(First, Option<Vec<u32>>), NoMemory>
+    ensures { IfOk result (λ found. IsFirst (judged graph.now level) found.0) }
+{
+    let (decision, order) = decide_by(rt, alloc, graph, level, workers)?;
+    let first = first_of(alloc, graph, level, decision, &order)?;
+    Ok((first, order))
+}
+
+/// The first answer for a snapshot within either limits, with its graph; or else all its read faults. It is the same for every number of
+/// workers.
+pub fn first_answer<B: AnsweredBounds>(
+    rt: &(impl Threads + Sync),
+    alloc: Global,
     snapshot: &SnapshotWithin<B>,
     level: Level,
-) -> Result<Answered, NoMemory>
-    ensures uncertified { IfOk result (IsAnswered false level snapshot.now) }
-    ensures past { (KeepsLimits snapshot.now → ⊥) → IfOk result (IsAnswered true level snapshot.now) }
+    workers: Workers,
+) -> Result<Answered, ResolveFault>
+    ensures { MatchResult result (IsAnswered level snapshot.now) (IsRefusal snapshot.now) }
 {
-    let alloc = run.alloc;
-    let graph = match graph_of(alloc, snapshot) {
-        Ok(graph) => graph,
-        Err(ResolveFault::Reads(faults)) => return Ok(Answered::Unresolved(faults)),
-        Err(ResolveFault::NoMemory) => return Err(NoMemory),
-    };
-    let (decision, order) = decide_by(run.rt, alloc, &graph, level, run.options.workers)?;
-    let first = first_of(alloc, &graph, level, decision, &order)?;
-    Ok(Answered::Bare {
+    let graph = graph_of(alloc, snapshot)?;
+    let (first, order) = first_of_graph(rt, alloc, &graph, level, workers)?;
+    Ok(Answered {
         graph,
         first,
         order,
     })
-}
-
-/// The answer for a snapshot within either limits, by the workers of the run: with its tables only where a certificate is wanted and it is
-/// within the small limits.
-pub fn answer<T: Threads + Sync, G: Gate, B: AnsweredBounds>(
-    run: &RunContext<T, G>,
-    snapshot: &SnapshotWithin<B>,
-    level: Level,
-    is_certified: bool,
-) -> Result<Answered, NoMemory>
-    ensures { IfOk result (IsAnswered is_certified level snapshot.now) }
-{
-    if !is_certified {
-        return bare(run, snapshot, level);
-    }
-    match B::as_small(run.alloc, snapshot)? {
-        AsSmall::Lent(small) => tabled(run, small, level),
-        AsSmall::Copied(small) => tabled(run, &small, level),
-        AsSmall::Past => bare(run, snapshot, level),
-    }
 }

@@ -8,9 +8,8 @@ pub mod ReadKeys
 pub mod FewTransactions
 pub mod RecordedKeys
 pub mod WrittenAnswer
-pub mod FoundLemmas
+pub mod KnownLemmas
 pub mod OneAnswer
-pub mod OfferLemmas
 pub mod GrownAnswer
 pub mod NextLemmas
 pub mod TabledWalks

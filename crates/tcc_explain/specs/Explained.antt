@@ -11,6 +11,7 @@ use Rattle.tcc_graph.specs.Labels.{labels_of}
 use Rattle.tcc_explain.specs.Certificates.{IsNearTable, IsFarTable, IsClocksAt}
 use Rattle.tcc_answer.specs.declared.answer.Answer.{Answer}
 use Rattle.tcc_answer.specs.declared.answer.Answer.TheVariants as answer
+use Rattle.tcc_explain.specs.declared.explaining.Explanation.{Explanation}
 
 -- The first answer for the history at the level, with its labels. Without a cycle it is the first commit order, with the clocks. Else it is
 -- the first least cycle, with the distances, each capped at the cost of the cycle.
@@ -25,6 +26,10 @@ IsAnswerOfHistory j (answer.Anomaly a) =
 -- the first answer for the history of a snapshot at the level, where all its reads have sources
 abbrev pub IsAnswerOfSnapshot : Sessions → Level → Answer → Type 0
 IsAnswerOfSnapshot s level a = (read_faults s ≡ []) × IsAnswerOfHistory (judged (history s) level) a
+
+-- such an answer, with the history of the snapshot
+abbrev pub IsExplanation : Sessions → Level → Explanation → Type 0
+IsExplanation s level e = (e.graph ≡ history s) × IsAnswerOfSnapshot s level e.answer
 
 -- an answer says the first answer for the history at the level, with its labels, whatever its tables
 abbrev pub IsBareAnswer : Judged → Answer → Type 0

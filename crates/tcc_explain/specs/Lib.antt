@@ -1,5 +1,6 @@
 pub mod Certificates
 pub mod Explained
+pub mod KnownCost
 pub mod Tabled
 pub mod Next
 pub mod Keys

@@ -1,105 +1,31 @@
-//! The answer for a snapshot.
-ghost use Rattle.std.specs.Prelude.{◌≡◌, IfOk, MatchResult};
-ghost use Rattle.tcc_graph.specs.{Orders.IsFirstOrder, Routes.HasCycle, Levels.Judged, Levels.judged};
-ghost use Rattle.tcc_near.specs.WalkLengths.{IsNearOf};
-ghost use Rattle.tcc_derive.specs.Prices.{IsPricesOf};
-ghost use Rattle.tcc_graph.specs.Labels.{labels_of};
-ghost use Rattle.tcc_answer.specs.declared.answer.Answer.TheVariants as answer;
+//! The answer for a snapshot: the first one for its history, with the tables of its certificate.
+ghost use Rattle.std.specs.Prelude.{◌≡◌, ℕ, IfOk, MatchResult};
+ghost use Rattle.tcc_graph.specs.{Labels.labels_of, Levels.judged, Orders.IsFirstOrder, Ties.IsFirstCycle};
 ghost use Rattle.tcc_reads.specs.Refusals.{IsRefusal};
-ghost use Rattle.tcc_explain.specs.{Explained.IsAnswerOfSnapshot, Explained.IsAnswerOfHistory};
-ghost use Rattle.tcc_explain.specs.private.Stages.{IsLabelledHistory, IsSearched};
+ghost use Rattle.tcc_explain.specs.Explained.{IsAnswerOfHistory, IsAnswerOfSnapshot, IsExplanation};
+ghost use Rattle.tcc_explain.specs.private.Stages.{IsLabelledHistory};
 
-use crate::tables::{clocks_at, far_rows, near_rows};
-use crate::warm_start::{lesser, offered};
+use crate::distances::distance_tables;
+use crate::tables::clocks_at;
 use std::alloc::Global;
 use std::thread::Threads;
 use tcc_answer::{Anomaly, Answer, Commit, Labels};
+use tcc_answering::{First, first_of_graph, steps_of};
 use tcc_base::Workers;
-use tcc_bits::PackedRow;
 use tcc_cert::{Links, Numbers};
-use tcc_core::{FirstReturn, first_cycle, seed};
-use tcc_derive::{Prices, derive};
+use tcc_derive::derive;
 use tcc_graph::{Graph, Level, Link};
-use tcc_near::{Near, near};
+use tcc_near::near;
 use tcc_order::laws::order_or_cycle;
-use tcc_order::order;
 use tcc_reads::{ResolveFault, resolve};
-use tcc_steal::{AllStart, Gate, search_with};
+use tcc_steal::Gate;
 use tcc_txn::{NoMemory, Snapshot};
 
-/// What the searches have found where there is a cycle.
+/// The answer for a snapshot, with the graph of its history.
 #[derive(Drop)]
-struct SearchedCycle {
-    /// The cost of a least cycle.
-    cost: u32,
-    /// The lowest start from which a least cycle leads, over numbers not below it.
-    start: u32,
-    /// A row for each start, capped at the cost.
-    rows: Vec<PackedRow>,
-}
-
-/// Searches from all starts, by `workers` workers, where there is a cycle. They begin with the cost of a cycle that goes
-/// where the links of an earlier one go.
-fn search_all<G: Gate>(
-    rt: &(impl Threads + Sync),
-    alloc: Global,
-    near: &Near,
-    prices: &Prices,
-    earlier: &[Link],
-    workers: Workers,
-    gate: &G,
-) -> Result<SearchedCycle, NoMemory>
-    requires cycle { (j : Judged) × IsNearOf j near.now × IsPricesOf j prices.now × HasCycle j }
-    ensures { (j : Judged) → IsPricesOf j prices.now → HasCycle j → IfOk result (IsSearched j) }
-{
-    let seed = lesser(offered(prices, earlier), seed(near, prices));
-    let found = search_with(rt, alloc, prices, seed, workers, gate, &AllStart)?;
-    let Some(cost) = found.least else {
-        unreachable!()
-    };
-    let Some(start) = found.first else {
-        unreachable!()
-    };
-    Ok(SearchedCycle {
-        cost,
-        start,
-        rows: found.rows,
-    })
-}
-
-/// The first of the least cycles with its tables. These are the rows of the distances and of the searches, as they are
-/// stored.
-fn anomaly<G: Gate>(
-    rt: &(impl Threads + Sync),
-    alloc: Global,
-    graph: &Graph,
-    near: Near,
-    prices: Prices,
-    labels: Labels,
-    earlier: &[Link],
-    workers: Workers,
-    gate: &G,
-) -> Result<Anomaly, NoMemory>
-    requires near { IsNearOf (judged graph.now near.level) near }
-    requires prices { IsPricesOf (judged graph.now near.level) prices }
-    requires cycle { HasCycle (judged graph.now near.level) }
-    requires labels { labels ≡ labels_of graph.now }
-    ensures { IfOk result (λ anomaly. IsAnswerOfHistory (judged graph.now near.level) (answer.Anomaly anomaly)) }
-{
-    let searched = search_all(rt, alloc, &near, &prices, earlier, workers, gate)?;
-    let row = searched.rows[searched.start as usize].unpacked(alloc)?;
-    let back = FirstReturn {
-        start: searched.start,
-        cost: searched.cost,
-        row: &row,
-    };
-    let links = first_cycle(alloc, graph, &near, &prices, &back)?;
-    drop(prices);
-    let level = near.level();
-    let cost = searched.cost;
-    let far = far_rows(graph, searched.rows, cost);
-    let distances = near_rows(alloc, graph, near, cost)?;
-    Ok(Anomaly::new(level, Links::new(links), cost, distances, far, labels))
+pub struct Explanation {
+    pub graph: Graph,
+    pub answer: Answer,
 }
 
 /// The answer where this is the first commit order, with its clocks.
@@ -121,30 +47,47 @@ fn order_answer(
     Ok(Answer::Commit(Commit::new(level, order, sessions, clocks, labels)))
 }
 
-/// The first answer for a history at a level: a commit order, or a cycle where there is none. It is the same whatever links
-/// of an earlier cycle the search begins with.
+/// The answer where these links are the first of the least cycles, with the tables of its certificate.
+fn cycle_answer<G: Gate>(
+    rt: &(impl Threads + Sync),
+    alloc: Global,
+    graph: &Graph,
+    level: Level,
+    links: Vec<Link>,
+    labels: Labels,
+    workers: Workers,
+    gate: &G,
+) -> Result<Answer, NoMemory>
+    requires labels { labels ≡ labels_of graph.now }
+    requires cycle { (s : ℕ) × IsFirstCycle (judged graph.now level) s links.items }
+    ensures { IfOk result (IsAnswerOfHistory (judged graph.now level)) }
+{
+    let cost = steps_of(&links)?;
+    let near = near(rt, alloc, graph, level)?;
+    let prices = derive(rt, alloc, graph, &near)?;
+    let tables = distance_tables(rt, alloc, graph, near, prices, cost, workers, gate)?;
+    let links = Links::new(links);
+    Ok(Answer::Anomaly(Anomaly::new(level, links, cost, tables.near, tables.far, labels)))
+}
+
+/// The first answer for a history at a level: a commit order, or a cycle where there is none.
 pub(crate) fn history_answer<G: Gate>(
     rt: &(impl Threads + Sync),
     alloc: Global,
     graph: &Graph,
     level: Level,
     labels: Labels,
-    earlier: &[Link],
     workers: Workers,
     gate: &G,
 ) -> Result<Answer, NoMemory>
     requires labels { labels ≡ labels_of graph.now }
     ensures { IfOk result (IsAnswerOfHistory (judged graph.now level)) }
 {
-    if let Some(order) = order(alloc, graph, level)? {
-        return order_answer(alloc, graph, level, order, labels);
+    let (first, _order) = first_of_graph(rt, alloc, graph, level, workers)?;
+    match first {
+        First::Order(order) => order_answer(alloc, graph, level, order, labels),
+        First::Cycle(links) => cycle_answer(rt, alloc, graph, level, links, labels, workers, gate),
     }
-    let near = near(rt, alloc, graph, level)?;
-    let prices = derive(rt, alloc, graph, &near)?;
-    let anomaly = anomaly(
-        rt, alloc, graph, near, prices, labels, earlier, workers, gate,
-    )?;
-    Ok(Answer::Anomaly(anomaly))
 }
 
 /// The history of a snapshot whose reads all have sources, with its labels; or all its read faults.
@@ -158,6 +101,22 @@ pub(crate) fn labelled_history(
     let graph = Graph::build(alloc, resolved)?;
     let labels = Labels::of(alloc, &graph)?;
     Ok((graph, labels))
+}
+
+/// The answer that `explain` gives, with the graph of the history.
+pub fn explain_with_graph<G: Gate>(
+    rt: &(impl Threads + Sync),
+    alloc: Global,
+    snapshot: &Snapshot,
+    level: Level,
+    workers: Workers,
+    gate: &G,
+) -> Result<Explanation, ResolveFault>
+    ensures { MatchResult result (IsExplanation snapshot.now level) (IsRefusal snapshot.now) }
+{
+    let (graph, labels) = labelled_history(alloc, snapshot)?;
+    let answer = history_answer(rt, alloc, &graph, level, labels, workers, gate)?;
+    Ok(Explanation { graph, answer })
 }
 
 /// The first answer for the history of a snapshot at a level, with its certificate. That is its first commit order, or the
@@ -183,7 +142,6 @@ pub fn explain<G: Gate>(
 ) -> Result<Answer, ResolveFault>
     ensures { MatchResult result (IsAnswerOfSnapshot snapshot.now level) (IsRefusal snapshot.now) }
 {
-    let (graph, labels) = labelled_history(alloc, snapshot)?;
-    let answer = history_answer(rt, alloc, &graph, level, labels, &[], workers, gate)?;
-    Ok(answer)
+    let explanation = explain_with_graph(rt, alloc, snapshot, level, workers, gate)?;
+    Ok(explanation.answer)
 }

@@ -1,4 +1,4 @@
-//! The answer for a snapshot that may continue one that had an anomaly, found from that anomaly on (`warm_start`).
+//! The answer for a snapshot that may continue one that had an anomaly.
 ghost use Rattle.std.specs.Prelude.{MatchResult};
 ghost use Rattle.tcc_explain.specs.Next.{IsNextAnswer, IsNextRefusal};
 
@@ -13,9 +13,8 @@ use tcc_steal::Gate;
 use tcc_txn::Snapshot;
 
 /// The answer that `explain` gives for the history of a snapshot at the level of an earlier anomaly. Each link of that
-/// anomaly, found by the labels of its transactions, has to be a link of this history: the search begins with what such a
-/// cycle costs now. Else the result is all read faults of the snapshot, where there are some, or the first link that isn't
-/// one, counted from 1.
+/// anomaly, found by the labels of its transactions, has to be a link of this history. Else the result is all read faults of
+/// the snapshot, where there are some, or the first link that isn't one, counted from 1.
 pub fn explain_next<G: Gate>(
     rt: &(impl Threads + Sync),
     alloc: Global,
@@ -32,6 +31,6 @@ pub fn explain_next<G: Gate>(
     if let Some(link) = first_missing(&graph, level, &links) {
         return Err(NextFault::NotNested { link });
     }
-    let answer = history_answer(rt, alloc, &graph, level, labels, &links, workers, gate)?;
+    let answer = history_answer(rt, alloc, &graph, level, labels, workers, gate)?;
     Ok(answer)
 }

@@ -3,11 +3,10 @@ ghost use Rattle.std.specs.Prelude.{IfOk};
 ghost use Rattle.tcc_full.specs.FullAnswer.{IsFound};
 
 use std::thread::Threads;
-use tcc_answering::{Answered, AnsweredBounds, First, answer};
-use tcc_explain::Gate;
+use tcc_answering::{AnsweredBounds, First, first_answer};
 use tcc_graph::{LargeGraph, Level};
 use tcc_print::RunContext;
-use tcc_reads::ReadFault;
+use tcc_reads::{ReadFault, ResolveFault};
 use tcc_txn::{NoMemory, SnapshotWithin};
 
 /// What is found for a snapshot.
@@ -20,18 +19,19 @@ pub(crate) enum FoundAnswer {
 }
 
 /// What is found for a snapshot at a level, by the workers of the run.
-pub(crate) fn find<T: Threads + Sync, G: Gate, B: AnsweredBounds>(
+pub(crate) fn find<T: Threads + Sync, G, B: AnsweredBounds>(
     run: &RunContext<T, G>,
     snapshot: &SnapshotWithin<B>,
     level: Level,
 ) -> Result<FoundAnswer, NoMemory>
     ensures { IfOk result (IsFound level snapshot.now) }
 {
-    let answered = answer(run, snapshot, level, false)?;
-    match answered {
-        Answered::Unresolved(faults) => Ok(FoundAnswer::Unresolved(faults)),
-        // There are tables only where a certificate is wanted.
-        Answered::Tabled(_) => unreachable!(),
-        Answered::Bare { graph, first, .. } => Ok(FoundAnswer::Resolved { graph, first }),
+    match first_answer(run.rt, run.alloc, snapshot, level, run.options.workers) {
+        Ok(answered) => Ok(FoundAnswer::Resolved {
+            graph: answered.graph,
+            first: answered.first,
+        }),
+        Err(ResolveFault::Reads(faults)) => Ok(FoundAnswer::Unresolved(faults)),
+        Err(ResolveFault::NoMemory) => Err(NoMemory),
     }
 }

@@ -17,7 +17,7 @@ use Rattle.tcc_rules.specs.Asked.{AllHold}
 use Rattle.tcc_explain.proofs.CertifiedOrder.{numbering_long}
 use Rattle.tcc_judge.specs.Claims.{links_claim_of}
 use Rattle.tcc_judge.specs.Verdicts.{cycle_rules}
-use Rattle.tcc_run.specs.private.LargeStages.{IsCycleClaim, IsLongClaim}
+use Rattle.tcc_run.specs.private.Stages.{IsCycleClaim, IsLongClaim}
 
 -- a commit order begins with `init`
 begins : (h : History) (level : Level) (order : List ℕ) → 0 < count h → IsCommitOrder (judged h level) order → (rest : List ℕ) × (0 ∷ rest ≡ order)

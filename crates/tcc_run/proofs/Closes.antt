@@ -50,13 +50,15 @@ module _ (options : Options) (records text : List ℕ) (limits : KeepsLimits (fi
 -- what is in a file that was empty is the certificate of the last answer, where no device failed
 pub left : (options : Options) (records text : List ℕ) → KeepsLimits (finished_in (answers_of records).items) → (before after : Option (List ℕ)) (code : ℕ)
     → IsExplainRun options records before after (Some (Some [])) (Some (Some text)) code → text ≢ [] → code ≢ code_of Device → Accepts records text
-left options records text limits before after code (said, last, ends, end, inl (out, gains, is)) some fine = go last.certificate refl
+left options records text limits before after code (said, last, ends, end, inl (out, gains, sliced, is)) some fine = go last.certificate refl
   where
     go : (kept : Option (List ℕ)) → last.certificate ≡ kept → Accepts records text
     go None has = absurd (some (gains ∙ ap (λ k. unwrap_or k []) has))
     go (Some written) has =
         let same : text ≡ written = gains ∙ ap (λ k. unwrap_or k []) has in
         closes options records text limits said last end (has ∙ ap Some (sym same)) ends
-left options records text limits before after code (said, last, ends, end, inr (inl (cuts, gains))) some fine = absurd (fine cuts.1)
-left options records text limits before after code (said, last, ends, end, inr (inr failed)) some fine =
-    absurd (fine (device_code failed.1.0 after (device_line options.json) code failed.1.2))
+left options records text limits before after code (said, last, ends, end, inr (inl (fails, none))) some fine = absurd (fine fails.0.1)
+left options records text limits before after code (said, last, ends, end, inr (inr (between, out, inl ((whole, is, part, prints), none)))) some fine =
+    absurd (fine (device_code between after (device_line options.json) code prints))
+left options records text limits before after code (said, last, ends, end, inr (inr (between, out, inr (gains, stops)))) some fine =
+    absurd (stops.0 refl)

@@ -11,8 +11,8 @@ use Rattle.tcc_print.specs.declared.options.Options.{Options}
 use Rattle.tcc_print.specs.declared.status.Status.TheVariants.{Device}
 use Rattle.tcc_print.proofs.Courses.{Gains-none}
 use Rattle.tcc_run.specs.LargeRuns.{CertificateStops, Files, IsSliced, IsUnsliced, SliceStops, Stops}
-use Rattle.tcc_run.specs.private.LargeStages.{IsOutcome, SendsCertificate, SendsSlice, WritesCertificate, WritesFiles, WritesSlice, outcome_links, outcome_said}
-use Rattle.tcc_run.specs.declared.large.outcome.LargeOutcome.{LargeOutcome}
+use Rattle.tcc_run.specs.private.Stages.{IsOutcome, SendsCertificate, SendsSlice, WritesCertificate, WritesFiles, WritesSlice, outcome_links, outcome_said}
+use Rattle.tcc_run.specs.declared.outcome.Outcome.{Outcome}
 use Rattle.tcc_run.proofs.Outcomes.{has_said, said_anomalous, unsaid}
 
 nothing : {A : Type 0} (x : A) → Some x ≡ None → ⊥
@@ -31,7 +31,7 @@ pub certificate_stops : (options : Options) (last : Said) (before after file fil
 certificate_stops options last before after file file' code (text, is, (n, part)) prints = (text, is, (n, part, nothing file), prints)
 
 -- the slice of what was said
-pub slice_given : {A : Type 0} (options : Options) (whole : Sessions) (o : LargeOutcome) (links : List Link) (r : Result A ℕ) (before after file file' : Option (List ℕ))
+pub slice_given : {A : Type 0} (options : Options) (whole : Sessions) (o : Outcome) (links : List Link) (r : Result A ℕ) (before after file file' : Option (List ℕ))
     → IsOutcome options.level whole o → outcome_links o ≡ Some links → SendsSlice options whole links r before after file file'
     → WritesSlice options whole (outcome_said options o) r before after (Some file) (Some file')
 slice_given options whole o links (Ok done) before after file file' is has (quiet, inl (slice, cut, out)) =
@@ -39,9 +39,9 @@ slice_given options whole o links (Ok done) before after file file' is has (quie
 slice_given options whole o links (Ok done) before after file file' is has (quiet, inr (none, out)) =
     (quiet, inr (inr (inr (links, has_said options whole o links is has, none)), out))
 slice_given options whole o links (Err code) before after file file' is has (inl (slice, n, cut, out, prints)) =
-    inl (slice, n, (links, has_said options whole o links is has, cut), out, prints)
+    (nothing file, inl (slice, n, (links, has_said options whole o links is has, cut), out, prints))
 slice_given options whole o links (Err code) before after file file' is has (inr (none, prints)) =
-    inr (said_anomalous options (history whole) (outcome_said options o) links (has_said options whole o links is has), none, prints)
+    (nothing file, inr (said_anomalous options (history whole) (outcome_said options o) links (has_said options whole o links is has), none, prints))
 
 -- there is no slice, and nothing is written to the file
 pub unsliced : (options : Options) (whole : Sessions) (last : Said) (file : Contents) → IsUnsliced options whole last → IsSliced options whole last file file
@@ -49,7 +49,7 @@ unsliced options whole last None is = refl
 unsliced options whole last (Some file) is = inr (is, Gains-none (Some file))
 
 -- what was said is no anomaly
-pub slice_none : (options : Options) (whole : Sessions) (o : LargeOutcome) (before : Option (List ℕ)) (file : Contents) → outcome_links o ≡ None
+pub slice_none : (options : Options) (whole : Sessions) (o : Outcome) (before : Option (List ℕ)) (file : Contents) → outcome_links o ≡ None
     → WritesSlice {A = Unit {0}} options whole (outcome_said options o) (Ok tt) before before file file
 slice_none options whole o before file none = (refl, unsliced options whole (outcome_said options o) file (inr (inl (unsaid options o none))))
 

@@ -11,16 +11,18 @@ use Rattle.tcc_reads.specs.Faults.{read_faults}
 use Rattle.tcc_graph.specs.declared.level.Level.{Level}
 use Rattle.tcc_answer.specs.declared.answer.Answer.{Answer}
 use Rattle.tcc_explain.specs.Explained.{IsAnswerOfSnapshot}
-use Rattle.tcc_print.specs.Printed.{answered, device_line}
+use Rattle.tcc_print.specs.Printed.{answered}
 use Rattle.tcc_print.specs.Statuses.{code_of}
 use Rattle.tcc_print.specs.declared.options.Options.{Options}
 use Rattle.tcc_print.specs.declared.status.Status.TheVariants.{Device, Memory}
 use Rattle.tcc_run.specs.Headline.{IsExplained}
 use Rattle.tcc_run.specs.HeadlineRuns.{PrintsExplained, SaysExplained, finished_by}
 use Rattle.tcc_print.specs.Courses.{Contents, Gains, Said, texts}
-use Rattle.tcc_run.specs.Runs.{AllGoesOut, IsSaidOfSnapshot, IsEndedRun, IsExplainRun, IsWholeRun}
+use Rattle.tcc_run.specs.LargeRuns.{AllGoesOut}
+use Rattle.tcc_run.specs.Runs.{IsSaidOfSnapshot, IsEndedRun, IsExplainRun, IsWholeRun}
 use Rattle.tcc_run.proofs.Closing.{accepted, only}
-use Rattle.tcc_print.proofs.LastSaid.{device_code, last_of_all, texts_end}
+use Rattle.tcc_run.proofs.GoesOut.{goes_out}
+use Rattle.tcc_print.proofs.LastSaid.{last_of_all, texts_end}
 
 module _ (law : (s : Sessions) (level : Level) (a : Answer) → IsAnswerOfSnapshot s level a → IsExplained s level a) (options : Options) where
   -- what is said about a snapshot is what the main theorem says
@@ -34,9 +36,15 @@ module _ (law : (s : Sessions) (level : Level) (a : Answer) → IsAnswerOfSnapsh
     abbrev Printed : Type 0
     Printed = PrintsExplained options records before after file file' code
 
-    of_answer : (said : List Said) (last : Said) → last_or None said ≡ Some last → AllGoesOut before after file file' (texts said) last code
+    -- all that was said was written, and the certificate of the last
+    abbrev Goes : List Said → Said → Type 0
+    Goes said last =
+        AllGoesOut options (finished_by records) before after (record { certificate = file; slice = None }) (record { certificate = file'; slice = None })
+        (texts said) last code
+
+    of_answer : (said : List Said) (last : Said) → last_or None said ≡ Some last → Goes said last
         → IsSaidOfSnapshot options (finished_by records) last → Printed
-    of_answer said last end (out, gains, ends) (inl (none, a, is, same)) =
+    of_answer said last end (out, gains, sliced, ends) (inl (none, a, is, same)) =
         let (front, whole) = texts_end said last end in
         let text : texts said ≡ front ++ answered options.json a = whole ∙ ap (λ (s : Said). front ++ s.text) same in
         record {
@@ -52,13 +60,15 @@ module _ (law : (s : Sessions) (level : Level) (a : Answer) → IsAnswerOfSnapsh
         }
     of_answer said last end goes (inr (faulty, same)) = absurd (faulty resolved)
 
-    of_ends : (said : List Said) (last : Said) → last_or None said ≡ Some last → AllGoesOut before after file file' (texts said) last code
+    of_ends : (said : List Said) (last : Said) → last_or None said ≡ Some last → Goes said last
         → IsWholeRun options (answers_of records) said ⊎ IsEndedRun options records said → Printed
     of_ends said last end goes ends =
         of_answer said last end goes
-        (last_of_all Small (IsSaidOfSnapshot options) options records said last end ends unfaulted code fine space goes.2)
+        (last_of_all Small (IsSaidOfSnapshot options) options records said last end ends unfaulted code fine space goes.3)
 
     pub prints : IsExplainRun options records before after file file' code → Printed
-    prints (said, last, ends, end, inl goes) = of_ends said last end goes ends
-    prints (said, last, ends, end, inr (inl failed)) = absurd (fine failed.0.1)
-    prints (said, last, ends, end, inr (inr failed)) = absurd (fine (device_code failed.1.0 after (device_line options.json) code failed.1.2))
+    prints run =
+        let (said, last, ends, end, goes) =
+        goes_out Small (IsSaidOfSnapshot options) options records before after (record { certificate = file; slice = None })
+        (record { certificate = file'; slice = None }) code fine space run in
+        of_ends said last end goes ends

@@ -101,4 +101,4 @@ module _ (laws : Laws) (options : Options) (records : List ℕ) where
         (last_of_all Large (IsSaidWithLarge options) options records said last end ends unfaulted code fine space goes.3)
 
     pub prints : IsLargeRun options records before after files files' code → Printed
-    prints run = let (said, last, ends, end, goes) = goes_out options records before after files files' code fine space run in of_ends said last end goes ends
+    prints run = let (said, last, ends, end, goes) = goes_out Large (IsSaidWithLarge options) options records before after files files' code fine space run in of_ends said last end goes ends

@@ -6,7 +6,6 @@ pub mod OneRun
 pub mod BareAnswers
 pub mod Runs
 pub mod Explains
-pub mod Earlier
 mod SoFar
 pub mod ClaimTexts
 pub mod FirstLines
@@ -17,5 +16,4 @@ pub mod OneText
 pub mod Own
 pub mod Accepted
 pub mod LargeCloses
-pub mod LargeRuns
 pub mod WithinSmall

@@ -30,9 +30,9 @@ use Rattle.tcc_print.specs.declared.options.Options.{Options}
 use Rattle.tcc_print.specs.Statuses.{answer_status}
 use Rattle.tcc_print.specs.declared.status.Status.TheVariants.{Anomaly, Success, TooFew}
 use Rattle.tcc_run.specs.LargeRuns.{HasSaid, IsClaimOf, IsSaidWithLarge, bare, bare_cycle, bare_order, claimed, cycle_claim}
-use Rattle.tcc_run.specs.private.LargeStages.{IsBareOf, IsCycleClaim, IsFound, IsFoundOf, IsOutcome, answer_links, outcome_links, outcome_said}
-use Rattle.tcc_run.specs.declared.large.outcome.LargeOutcome.{LargeOutcome}
-use Rattle.tcc_run.specs.declared.large.outcome.LargeOutcome.TheVariants as outcome
+use Rattle.tcc_run.specs.private.Stages.{IsBareOf, IsCycleClaim, IsFound, IsFoundOf, IsOutcome, answer_links, outcome_links, outcome_said}
+use Rattle.tcc_run.specs.declared.outcome.Outcome.{Outcome}
+use Rattle.tcc_run.specs.declared.outcome.Outcome.TheVariants as outcome
 
 -- ---- what is found above the small limits
 
@@ -65,16 +65,16 @@ found_cycle level h s links a k is same ((least, says, made), room) = (
 )
 
 -- this is what is to be said about a snapshot of this history
-pub large_outcome : (level : Level) (s : Sessions) (h : History) (o : LargeOutcome) → read_faults s ≡ [] → (KeepsLimits s → ⊥) → h ≡ history s
+pub large_outcome : (level : Level) (s : Sessions) (h : History) (o : Outcome) → read_faults s ≡ [] → (KeepsLimits s → ⊥) → h ≡ history s
     → IsFoundOf level h o → IsOutcome level s o
 large_outcome level s h o none past own (a, claim, same, found) =
-    subst (λ (o : LargeOutcome). IsOutcome level s o) (sym same) (none, past, own, found)
+    subst (λ (o : Outcome). IsOutcome level s o) (sym same) (none, past, own, found)
 
 -- ---- what is found within them, without tables
 
-pub bare_outcome : (level : Level) (s : Sessions) (h : History) (o : LargeOutcome) → read_faults s ≡ [] → KeepsLimits s → h ≡ history s
+pub bare_outcome : (level : Level) (s : Sessions) (h : History) (o : Outcome) → read_faults s ≡ [] → KeepsLimits s → h ≡ history s
     → IsBareOf level h o → IsOutcome level s o
-bare_outcome level s h o none keeps own (a, same, is) = subst (λ (o : LargeOutcome). IsOutcome level s o) (sym same) (none, keeps, own, is)
+bare_outcome level s h o none keeps own (a, same, is) = subst (λ (o : Outcome). IsOutcome level s o) (sym same) (none, keeps, own, is)
 
 -- an answer without tables says the same as with the tables that its history gives
 bare_said : (options : Options) (h : History) (a : Answer) → outcome_said options (outcome.Bare h a) ≡ answer_said options (with_tables h a)
@@ -91,9 +91,9 @@ found_said options s a claim none past found =
       inr (past, claim, (found.answered, found.is, found.claimed, ap (λ (b : Answer). claimed options b claim) found.answer), found.room),
     )
 
-pub said_of : (options : Options) (s : Sessions) (o : LargeOutcome) → IsOutcome options.level s o → IsSaidWithLarge options s (outcome_said options o)
+pub said_of : (options : Options) (s : Sessions) (o : Outcome) → IsOutcome options.level s o → IsSaidWithLarge options s (outcome_said options o)
 said_of options s (outcome.Unresolved faults) (faulty, same) = inr (faulty, ap (faults_said options) same)
-said_of options s (outcome.Tabled a) (resolved, keeps, is) = inl (resolved, inl (keeps, a, is, refl))
+said_of options s (outcome.Tabled h a) (resolved, keeps, own, is) = inl (resolved, inl (keeps, a, is, refl))
 said_of options s (outcome.Bare h a) (resolved, keeps, own, is) =
     let j = judged (history s) options.level in
     inl (
@@ -110,7 +110,7 @@ said_of options s (outcome.Large h a claim) (resolved, past, own, found) =
 
 -- ---- the links of what was said
 
-nothing : {A : Type 0} (x : A) → None ≡ Some x → ⊥
+pub nothing : {A : Type 0} (x : A) → None ≡ Some x → ⊥
 nothing x e = cc
 
 inside : {A : Type 0} (x y : A) → Some x ≡ Some y → y ≡ x
@@ -133,10 +133,10 @@ found_links options h a claim links found e =
     subst (λ (b : Answer). HasSaid options h (claimed options b claim) links) (sym found.answer)
     (bare_links options h found.answered claim links found.claimed (sym (ap answer_links found.answer) ∙ e))
 
-small_links : (options : Options) (h : History) (a : Answer) (links : List Link) → answer_links a ≡ Some links
-    → HasSaid options h (outcome_said options (outcome.Tabled a)) links
-small_links options h (answer.Commit c) links e = absurd (nothing links e)
-small_links options h (answer.Anomaly a) links e = inl (a, refl, inside a.links links e)
+small_links : (options : Options) (h g : History) (a : Answer) (links : List Link) → answer_links a ≡ Some links
+    → HasSaid options g (outcome_said options (outcome.Tabled h a)) links
+small_links options h g (answer.Commit c) links e = absurd (nothing links e)
+small_links options h g (answer.Anomaly a) links e = inl (a, refl, inside a.links links e)
 
 abbrev with_distances : History → LabelledCycle → LabelledCycle
 with_distances h a = record {
@@ -152,10 +152,10 @@ untabled_links : (options : Options) (h g : History) (a : Answer) (links : List 
 untabled_links options h g (answer.Commit c) links e = absurd (nothing links e)
 untabled_links options h g (answer.Anomaly a) links e = inl (with_distances h a, refl, inside a.links links e)
 
-pub has_said : (options : Options) (s : Sessions) (o : LargeOutcome) (links : List Link) → IsOutcome options.level s o → outcome_links o ≡ Some links
+pub has_said : (options : Options) (s : Sessions) (o : Outcome) (links : List Link) → IsOutcome options.level s o → outcome_links o ≡ Some links
     → HasSaid options (history s) (outcome_said options o) links
 has_said options s (outcome.Unresolved faults) links is e = absurd (nothing links e)
-has_said options s (outcome.Tabled a) links is e = small_links options (history s) a links e
+has_said options s (outcome.Tabled h a) links is e = small_links options h (history s) a links e
 has_said options s (outcome.Bare h a) links is e = untabled_links options h (history s) a links e
 has_said options s (outcome.Large h a claim) links (resolved, past, own, found) e =
     found_links options (history s) a claim links (subst (λ (h : History). IsFound options.level h a claim) own found) e
@@ -169,9 +169,9 @@ none_anomalous required (answer.Commit c) none = by (nat_lt (length c.order - 1)
     by false e = cc
 none_anomalous required (answer.Anomaly a) none = absurd (nothing a.links (sym none))
 
-pub unsaid : (options : Options) (o : LargeOutcome) → outcome_links o ≡ None → (outcome_said options o).status ≢ Anomaly
+pub unsaid : (options : Options) (o : Outcome) → outcome_links o ≡ None → (outcome_said options o).status ≢ Anomaly
 unsaid options (outcome.Unresolved faults) none e = cc
-unsaid options (outcome.Tabled a) none e = none_anomalous options.required a none e
+unsaid options (outcome.Tabled h a) none e = none_anomalous options.required a none e
 unsaid options (outcome.Bare h a) none e = none_anomalous options.required a none e
 unsaid options (outcome.Large h a claim) none e = none_anomalous options.required a none e
 
@@ -192,10 +192,10 @@ small_cycle level s (answer.Commit c) links none is e = absurd (nothing links e)
 small_cycle level s (answer.Anomaly a) links none is e =
     (none, subst (AreCycle (judged (history s) level)) (sym (inside a.links links e)) (is.0.0, is.0.1.least.cycle))
 
-pub links_cycle : (level : Level) (s : Sessions) (o : LargeOutcome) (links : List Link) → IsOutcome level s o → outcome_links o ≡ Some links
+pub links_cycle : (level : Level) (s : Sessions) (o : Outcome) (links : List Link) → IsOutcome level s o → outcome_links o ≡ Some links
     → (read_faults s ≡ []) × AreCycle (judged (history s) level) links
 links_cycle level s (outcome.Unresolved faults) links is e = absurd (nothing links e)
-links_cycle level s (outcome.Tabled a) links (none, keeps, is) e =
+links_cycle level s (outcome.Tabled h a) links (none, keeps, own, is) e =
     small_cycle level s a links none (tables.bare (judged (history s) level) a is) e
 links_cycle level s (outcome.Bare h a) links (none, keeps, own, is) e =
     small_cycle level s a links none (subst (λ (g : History). IsBareAnswer (judged g level) a) own is) e

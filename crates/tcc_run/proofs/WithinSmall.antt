@@ -26,7 +26,7 @@ use Rattle.tcc_run.proofs.GoesOut.{goes_out}
 
 -- ---- of one snapshot
 
-said_small : (options : Options) (s : Sessions) (said : Said) → KeepsLimits s → large.IsSaidWithLarge options s said → small.IsSaidOfSnapshot options s said
+pub said_small : (options : Options) (s : Sessions) (said : Said) → KeepsLimits s → large.IsSaidWithLarge options s said → small.IsSaidOfSnapshot options s said
 said_small options s said keeps (inl (none, inl (kept, a, is, same))) = inl (none, a, is, same)
 said_small options s said keeps (inl (none, inr (beyond, claim, is, room))) = absurd (beyond keeps)
 said_small options s said keeps (inr faulty) = inr faulty
@@ -190,14 +190,13 @@ module _ (law : (text : List ℕ) (n : ℕ) → KeepsLimits (finished_in (take n
   pub run_small : (before after : Option (List ℕ)) (files files' : large.Files) (code : ℕ) → large.IsLargeRun options records before after files files' code
       → code ≢ code_of Device → code ≢ code_of Memory → small.IsExplainRun options records before after files.certificate files'.certificate code
   run_small before after files files' code run fine space =
-      let (said, last, ends, end, (out, gains, sliced, ends_by)) = goes_out options records before after files files' code fine space run in
-      (said, last, ends_small said ends, end, inl (out, gains, ends_by))
+      let (said, last, ends, end, (out, gains, sliced, ends_by)) = goes_out Large (large.IsSaidWithLarge options) options records before after files files' code fine space run in
+      (said, last, ends_small said ends, end, inl (out, gains, refl, ends_by))
 
   pub run_large : (before after : Option (List ℕ)) (file file' : Contents) (code : ℕ) → small.IsExplainRun options records before after file file' code
       → large.IsLargeRun options records before after (record { certificate = file; slice = None }) (record { certificate = file'; slice = None }) code
-  run_large before after file file' code (said, last, ends, end, inl (out, gains, ends_by)) =
-      (said, last, ends_large said ends, end, inl (out, gains, refl, ends_by))
-  run_large before after file file' code (said, last, ends, end, inr (inl fails)) =
-      (said, last, ends_large said ends, end, inr (inl (fails, refl)))
-  run_large before after file file' code (said, last, ends, end, inr (inr ((text, is, part), (between, out, prints)))) =
-      (said, last, ends_large said ends, end, inr (inr (between, out, inl ((text, is, part, prints), refl))))
+  run_large before after file file' code (said, last, ends, end, inl goes) = (said, last, ends_large said ends, end, inl goes)
+  run_large before after file file' code (said, last, ends, end, inr (inl fails)) = (said, last, ends_large said ends, end, inr (inl fails))
+  run_large before after file file' code (said, last, ends, end, inr (inr (between, out, inl stops))) =
+      (said, last, ends_large said ends, end, inr (inr (between, out, inl stops)))
+  run_large before after file file' code (said, last, ends, end, inr (inr (between, out, inr (gains, stops)))) = absurd (stops.0 refl)

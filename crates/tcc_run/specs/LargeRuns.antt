@@ -1,10 +1,11 @@
--- The answers for the records of an input within the large limits, and what a run of explain --large does with their bytes.
+-- What a run does with the bytes of its records, and the answers for those within the large limits.
 use Rattle.std.specs.Prelude.{ℕ, ◌≡◌, ◌≢◌, ◌<◌, ◌≤◌, ◌⊎◌, List, [], length, take, unwrap_or, Option, None, Some}
 use Rattle.std.specs.Io.KnownBytes.{Appends}
 use Rattle.tcc_rows.specs.Answers as rows
 use Rattle.tcc_txn.specs.Finished.{KeepsLimits}
 use Rattle.tcc_rows.specs.Items.{finished_in}
 use Rattle.tcc_txn.specs.Snapshots.{Sessions}
+use Rattle.tcc_txn.specs.declared.limits.Limits.{Limits}
 use Rattle.tcc_txn.specs.declared.limits.Limits.TheVariants.{Large}
 use Rattle.tcc_reads.specs.Faults.{read_faults}
 use Rattle.tcc_reads.specs.History.{History}
@@ -39,7 +40,7 @@ use Rattle.tcc_print.specs.Statuses.{answer_status, code_of}
 use Rattle.tcc_print.specs.declared.options.Options.{Options}
 use Rattle.tcc_print.specs.declared.status.Status.TheVariants.{Anomaly, Device, Memory}
 use Rattle.tcc_rules.specs.Asked.{AllHold, IsVerdictOf}
-use Rattle.tcc_run.specs.declared.large.explained.Explained.{Explained}
+use Rattle.tcc_run.specs.declared.explained.Explained.{Explained}
 
 -- ---- one answer above the small limits
 
@@ -124,9 +125,12 @@ records_of text = rows.records_within Large text
 
 -- ---- the slice
 
--- what the records of an input finish by its end
+-- what the records of an input finish within limits by its end
+abbrev pub finished_within : Limits → List ℕ → Sessions
+finished_within limits bytes = finished_in (rows.answers_within limits bytes).items
+
 abbrev pub finished : List ℕ → Sessions
-finished bytes = finished_in (answers_of bytes).items
+finished bytes = finished_within Large bytes
 
 -- what the records of a text finish within the small limits, where they have no fault
 abbrev pub Finishes : List ℕ → Sessions → Type 0
@@ -187,12 +191,13 @@ CertificateStops options last before after file file' code =
     (text : List ℕ) × (last.certificate ≡ Some text) × ((n : ℕ) × Gains file file' (take n text) × (file ≢ None))
     × Prints before after (device_line options.json) Device code
 
--- after what was written a write of the slice failed, of which a part, from its front, was written; or memory was out before it
+-- a file is given for the slice. After what was written a write of the slice failed, of which a part, from its front, was written; or
+-- memory was out before it
 abbrev pub SliceStops : Options → Sessions → Said → Option (List ℕ) → Option (List ℕ) → Contents → Contents → ℕ → Type 0
 SliceStops options whole last before after file file' code =
-    ((slice : List ℕ) × (n : ℕ) × IsSliceOfLast options whole last slice × Gains file file' (take n slice)
+    (file ≢ None) × (((slice : List ℕ) × (n : ℕ) × IsSliceOfLast options whole last slice × Gains file file' (take n slice)
     × Prints before after (device_line options.json) Device code)
-    ⊎ ((last.status ≡ Anomaly) × Gains file file' [] × Prints before after (memory_line options.json) Memory code)
+    ⊎ ((last.status ≡ Anomaly) × Gains file file' [] × Prints before after (memory_line options.json) Memory code))
 
 -- after the texts the certificate of the last answer stopped, and its slice wasn't begun; or after the certificate the slice stopped
 abbrev pub Stops : Options → Sessions → Said → Option (List ℕ) → Option (List ℕ) → Files → Files → ℕ → Type 0
@@ -204,15 +209,19 @@ abbrev pub FileFails : Options → Sessions → Option (List ℕ) → Option (Li
 FileFails options whole before after files files' text last code =
     (between : Option (List ℕ)) × Appends before between text × Stops options whole last between after files files' code
 
--- what a run does with the bytes: its texts are written one after the other. After them, to the files that are given, it writes the
--- certificate of the last answer and, where that is an anomaly, the records of its slice of all that was finished. The status is that of
--- the last
-abbrev pub IsLargeRun : Options → List ℕ → Option (List ℕ) → Option (List ℕ) → Files → Files → ℕ → Type 0
-IsLargeRun options bytes before after files files' code =
-    IsCourse Large (IsSaidWithLarge options) options bytes
-    (λ text last. AllGoesOut options (finished bytes) before after files files' text last code
+-- what a run within limits does with the bytes, by what it may say about a snapshot: its texts are written one after the other. After
+-- them, to the files that are given, it writes the certificate of the last answer and, where that is an anomaly, the records of its slice
+-- of all that was finished. The status is that of the last
+abbrev pub IsRun : Limits → (Sessions → Said → Type 0) → Options → List ℕ → Option (List ℕ) → Option (List ℕ) → Files → Files → ℕ → Type 0
+IsRun limits is_said options bytes before after files files' code =
+    IsCourse limits is_said options bytes
+    (λ text last. AllGoesOut options (finished_within limits bytes) before after files files' text last code
     ⊎ ((TextFails before after files.certificate files'.certificate text code × Gains files.slice files'.slice [])
-    ⊎ FileFails options (finished bytes) before after files files' text last code))
+    ⊎ FileFails options (finished_within limits bytes) before after files files' text last code))
+
+-- what a run with --large does
+abbrev pub IsLargeRun : Options → List ℕ → Option (List ℕ) → Option (List ℕ) → Files → Files → ℕ → Type 0
+IsLargeRun options bytes before after files files' code = IsRun Large (IsSaidWithLarge options) options bytes before after files files' code
 
 -- ---- what is accepted
 

@@ -1,6 +1,5 @@
 -- The answers for the records of an input, and what a run of explain does with their bytes.
-use Rattle.std.specs.Prelude.{ℕ, ◌≡◌, ◌≢◌, ◌⊎◌, List, [], ◌∷◌, ◌++◌, take, unwrap_or, Option, None, Some}
-use Rattle.std.specs.Io.KnownBytes.{Appends}
+use Rattle.std.specs.Prelude.{ℕ, ◌≡◌, ◌≢◌, ◌⊎◌, List, [], ◌∷◌, ◌++◌, Option, None, Some}
 use Rattle.tcc_rows.specs.Answers as rows
 use Rattle.tcc_txn.specs.Snapshots.{Sessions}
 use Rattle.tcc_txn.specs.declared.limits.Limits.TheVariants.{Small}
@@ -11,13 +10,11 @@ use Rattle.tcc_explain.specs.Explained.{IsAnswerOfHistory}
 use Rattle.tcc_answer.specs.declared.answer.Answer.{Answer}
 use Rattle.tcc_graph.specs.Levels.{judged}
 use Rattle.tcc_print.specs.Courses as course
-use Rattle.tcc_print.specs.Courses.{AreSaid, Contents, Gains, IsCourse, IsEndedAfter, Said, TextFails, answer_said, faults_said, run_error_said}
+use Rattle.tcc_print.specs.Courses.{AreSaid, Contents, IsEndedAfter, Said, answer_said, faults_said, run_error_said}
 use Rattle.tcc_print.specs.Checkpoints.{sealed_in}
 use Rattle.tcc_print.specs.declared.run_error.RunError.TheVariants as error
 use Rattle.tcc_print.specs.declared.options.Options.{Options}
-use Rattle.tcc_print.specs.declared.status.Status.TheVariants.{Device}
-use Rattle.tcc_print.specs.Statuses.{code_of}
-use Rattle.tcc_print.specs.Printed.{device_line, Prints}
+use Rattle.tcc_run.specs.LargeRuns.{IsRun}
 
 -- ---- one answer
 
@@ -61,26 +58,9 @@ AreFront some all = (rest : List Said) × (all ≡ some ++ rest)
 
 -- ---- what is written
 
--- a file is given, and a part of the text, from its front, was written to it
-abbrev pub GainsPart : Contents → Contents → List ℕ → Type 0
-GainsPart file file' text = (n : ℕ) × Gains file file' (take n text) × (file ≢ None)
-
--- the text was written, and then all of the certificate, if there is one: the status is that of the last
-abbrev pub AllGoesOut : Option (List ℕ) → Option (List ℕ) → Contents → Contents → List ℕ → Said → ℕ → Type 0
-AllGoesOut before after file file' text last code =
-    Appends before after text × Gains file file' (unwrap_or last.certificate []) × (code ≡ code_of last.status)
-
--- a write of the certificate failed after the text: a part of it, from its front, was written, and the line for the device comes after the
--- text
-abbrev pub CertificateFails : Options → Option (List ℕ) → Option (List ℕ) → Contents → Contents → List ℕ → Said → ℕ → Type 0
-CertificateFails options before after file file' text last code =
-    ((certificate : List ℕ) × (last.certificate ≡ Some certificate) × GainsPart file file' certificate)
-    × ((between : Option (List ℕ)) × Appends before between text × Prints between after (device_line options.json) Device code)
-
--- what a run does with the bytes: its texts are written one after the other. After them, to the file that is given for it, comes the
--- certificate of the last; the status is that of the last
+-- what a run without --large does with the bytes: its texts are written one after the other. After them, to the file that is given for it,
+-- comes the certificate of the last; the status is that of the last. No file is given for a slice
 abbrev pub IsExplainRun : Options → List ℕ → Option (List ℕ) → Option (List ℕ) → Contents → Contents → ℕ → Type 0
 IsExplainRun options bytes before after file file' code =
-    IsCourse Small (IsSaidOfSnapshot options) options bytes
-    (λ text last. AllGoesOut before after file file' text last code
-    ⊎ (TextFails before after file file' text code ⊎ CertificateFails options before after file file' text last code))
+    IsRun Small (IsSaidOfSnapshot options) options bytes before after (record { certificate = file; slice = None })
+    (record { certificate = file'; slice = None }) code

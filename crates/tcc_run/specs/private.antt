@@ -1,4 +1,3 @@
 -- Definitions that no reader has to trust: only private functions and proofs use them.
 pub mod Stages
 pub mod Laws
-pub mod LargeStages

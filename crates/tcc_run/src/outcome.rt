@@ -1,209 +1,219 @@
-//! What is said about a snapshot: its answer, or all its read faults.
-ghost use Rattle.std.specs.Prelude.{◌≡◌, ℕ, IfOk, IfSome, MatchResult, false, true};
-ghost use Rattle.tcc_txn.specs.{Finished.KeepsLimits, Snapshots.Sessions};
-ghost use Rattle.tcc_graph.specs.declared.level.Level.{Level};
-ghost use Rattle.tcc_reads.specs.Refusals.{IsRefusal};
-ghost use Rattle.tcc_explain.specs.Explained.{IsAnswerOfSnapshot};
-ghost use Rattle.tcc_print.specs.{Saying.IsTold, Statuses.last_status};
-ghost use Rattle.tcc_run.specs.private.Stages.{Follows, HasEarlier, IsCertifiable, IsEarlier, answer_in, course, outcome_answer};
+//! What is said about a snapshot: its first answer, or all its read faults.
+ghost use Rattle.std.specs.Prelude.{◌≡◌, ◌↔◌, ℕ, IfErr, IfOk, IsTrue, OnOk, option_map};
+ghost use Rattle.tcc_txn.specs.Finished.{KeepsLimits};
+ghost use Rattle.tcc_graph.specs.{Levels.judged, Orders.IsFirstOrder, Ties.IsFirstCycle};
+ghost use Rattle.tcc_answering.specs.Firsts.{IsFirst};
+ghost use Rattle.std.specs.Io.KnownBytes.{Appends};
+ghost use Rattle.tcc_print.specs.{Courses.AreSaidFaults, Printed.EndsIn, declared.options.Options.Options};
+ghost use Rattle.tcc_run.specs.private.Stages.{IsBareOf, IsFoundOf, outcome_answer, outcome_links, outcome_said, outcome_status, outcome_text};
 
-use crate::bare::bare_answer;
-use crate::headline::{explain_snapshot, explain_snapshot_next};
+use crate::bare::{bare_answer, cycle_answer, order_answer};
+use crate::claims::cycle_claim;
+use crate::held_graph::{HeldGraph, HeldSmallGraph};
+use crate::room::has_order_room;
 use std::alloc::Global;
 use std::io::Write;
-use std::thread::Threads;
-use tcc_answering::{Answered, answer};
-use tcc_explain::laws::grown;
-use tcc_explain::{Anomaly, Answer, ExplainFault, Gate, NextFault};
-use tcc_graph::{LargeGraph, Level};
+use tcc_answer::{Answer, Labels};
+use tcc_answering::First;
+use tcc_cert::{LargeCertificate, order_claim};
+use tcc_graph::{LargeGraph, Level, Link};
+use tcc_order::laws::order_or_cycle;
 use tcc_print::printing::{send_answer, send_unresolved};
-use tcc_print::{Options, PreviousAnswer, Printable, RunContext};
+use tcc_print::status::answer_status;
+use tcc_print::{Options, Status};
 use tcc_reads::ReadFault;
-use tcc_txn::{NoMemory, Snapshot};
+use tcc_txn::{Bounds, MAX_SESSIONS, MAX_TRANSACTIONS, NoMemory, SnapshotWithin};
 
-/// What is said about a snapshot: its answer, or all its read faults in place of one.
+/// What is said about a snapshot.
 #[derive(Drop)]
-pub(crate) enum ExplainOutcome {
-    /// With the tables of its certificate.
-    Tabled(Answer),
-    /// Without them, where no certificate is wanted; and the graph, whose history has them.
-    Bare {
-        graph: LargeGraph,
+pub(crate) enum Outcome {
+    /// All its read faults.
+    Unresolved(Vec<ReadFault>),
+    /// Within the small limits, where its certificate is wanted: its graph, and its first answer with the tables of that.
+    Tabled {
+        graph: HeldSmallGraph,
         answer: Answer,
     },
-    Unresolved {
-        faults: Vec<ReadFault>,
-        /// The anomaly that was answered last, if there was one; it is still one once these reads are resolved.
-        earlier: Option<Anomaly>,
+    /// Within them, where none is wanted: its graph, whose history has the tables, and its first answer without them.
+    Bare {
+        graph: HeldGraph,
+        answer: Answer,
+    },
+    /// Above them: its graph, its first answer, without the tables of a small one, and what its certificate claims.
+    Large {
+        graph: HeldGraph,
+        answer: Answer,
+        claim: LargeCertificate,
     },
 }
 
-/// The first answer for a snapshot at a level, or all its read faults, by the workers and the gate of a run.
-fn first_answer<T: Threads + Sync, G: Gate>(
-    run: &RunContext<T, G>,
-    snapshot: &Snapshot,
-    level: Level,
-) -> Result<Answer, ExplainFault>
-    ensures answer { MatchResult result (IsAnswerOfSnapshot snapshot.now level) (IsRefusal snapshot.now) }
-    ensures limits { KeepsLimits snapshot.now }
+/// Whether a snapshot keeps the small limits.
+pub(crate) fn is_small<B: Bounds>(snapshot: &SnapshotWithin<B>) -> bool
+    ensures { IsTrue result ↔ KeepsLimits snapshot.now }
 {
-    snapshot.keeps_limits();
-    let workers = run.options.workers;
-    explain_snapshot(run.rt, run.alloc, snapshot, level, workers, run.gate)
+    let sessions = snapshot.sessions() as usize;
+    let transactions = snapshot.transactions();
+    sessions <= MAX_SESSIONS && transactions <= MAX_TRANSACTIONS
 }
 
-/// The answer for a snapshot at the level; after an anomaly the search begins with what that one costs now.
-fn work_out<T: Threads + Sync, G: Gate>(
-    run: &RunContext<T, G>,
-    snapshot: &Snapshot,
-    earlier: &Option<Anomaly>,
-) -> Result<Answer, ExplainFault>
-    requires earlier { IfSome earlier.now (IsEarlier run.now.options.now.level snapshot.now) }
-    ensures { MatchResult result (IsAnswerOfSnapshot snapshot.now run.now.options.now.level) (IsRefusal snapshot.now) }
-{
-    let Some(anomaly) = earlier else {
-        return first_answer(run, snapshot, run.options.level);
-    };
-    grown();
-    snapshot.keeps_limits();
-    let workers = run.options.workers;
-    match explain_snapshot_next(run.rt, run.alloc, snapshot, anomaly, workers, run.gate) {
-        Ok(answer) => Ok(answer),
-        Err(NextFault::Reads(faults)) => Err(ExplainFault::Reads(faults)),
-        Err(NextFault::NoMemory) => Err(ExplainFault::NoMemory),
-        Err(NextFault::NotNested { .. }) => unreachable!(),
-    }
-}
-
-/// What is to be said about a snapshot, with the tables of its certificate; it continues that of the earlier anomaly, if there was one.
-fn tabled<T: Threads + Sync, G: Gate>(
-    run: &RunContext<T, G>,
-    snapshot: &Snapshot,
-    earlier: Option<Anomaly>,
-) -> Result<ExplainOutcome, NoMemory>
-    requires earlier { IfSome earlier (IsEarlier run.now.options.now.level snapshot.now) }
-    ensures told { IfOk result (IsTold (course run.now.options.now) snapshot.now) }
-    ensures earlier { IfOk result (HasEarlier run.now.options.now.level snapshot.now) }
-    ensures certifiable { IfOk result (IsCertifiable true) }
-{
-    match work_out(run, snapshot, &earlier) {
-        Ok(answer) => Ok(ExplainOutcome::Tabled(answer)),
-        Err(ExplainFault::Reads(faults)) => Ok(ExplainOutcome::Unresolved { faults, earlier }),
-        Err(ExplainFault::NoMemory) => Err(NoMemory),
-    }
-}
-
-/// What is to be said about a snapshot, without tables. An earlier anomaly doesn't help there.
-fn bare<T: Threads + Sync, G: Gate>(
-    run: &RunContext<T, G>,
-    snapshot: &Snapshot,
-) -> Result<ExplainOutcome, NoMemory>
-    ensures told { IfOk result (IsTold (course run.now.options.now) snapshot.now) }
-    ensures earlier { IfOk result (HasEarlier run.now.options.now.level snapshot.now) }
-    ensures certifiable { IfOk result (IsCertifiable false) }
-{
-    let (alloc, level) = (run.alloc, run.options.level);
-    let answered = answer(run, snapshot, level, false)?;
-    match answered {
-        Answered::Unresolved(faults) => Ok(ExplainOutcome::Unresolved {
-            faults,
-            earlier: None,
-        }),
-        Answered::Tabled(_) => unreachable!(),
-        Answered::Bare { graph, first, .. } => {
-            let answer = bare_answer(alloc, &graph, level, first)?;
-            Ok(ExplainOutcome::Bare { graph, answer })
-        }
-    }
-}
-
-impl ExplainOutcome {
-    /// What is to be said about the snapshot, with tables where a certificate is wanted. It continues that of the earlier anomaly, if there
-    /// was one.
-    pub(crate) fn of<T: Threads + Sync, G: Gate>(
-        run: &RunContext<T, G>,
-        snapshot: &Snapshot,
-        earlier: Option<Anomaly>,
-        is_certified: bool,
-    ) -> Result<ExplainOutcome, NoMemory>
-        requires earlier { IfSome earlier (IsEarlier run.now.options.now.level snapshot.now) }
-        ensures told { IfOk result (IsTold (course run.now.options.now) snapshot.now) }
-        ensures earlier { IfOk result (HasEarlier run.now.options.now.level snapshot.now) }
-        ensures certifiable { IfOk result (IsCertifiable is_certified) }
+impl Outcome {
+    /// What is said about a history by its first answer, without a claim.
+    pub(crate) fn of_small(
+        alloc: Global,
+        level: Level,
+        graph: LargeGraph,
+        first: First,
+    ) -> Result<Outcome, NoMemory>
+        ensures { IsFirst (judged graph level) first → IfOk result (IsBareOf level graph) }
     {
-        if is_certified {
-            tabled(run, snapshot, earlier)
-        } else {
-            bare(run, snapshot)
+        let answer = bare_answer(alloc, &graph, level, first)?;
+        let held = HeldGraph::new(alloc, graph)?;
+        Ok(Outcome::Bare {
+            graph: held,
+            answer,
+        })
+    }
+
+    /// What is said about a history by its first commit order.
+    fn of_order(
+        alloc: Global,
+        level: Level,
+        graph: LargeGraph,
+        order: Vec<u32>,
+    ) -> Result<Outcome, NoMemory>
+        ensures { IsFirstOrder (judged graph level) order.items → IfOk result (IsFoundOf level graph) }
+    {
+        // These calls ensure that where there is an order there is no cycle, and that its claim has a text.
+        order_or_cycle();
+        has_order_room(&graph);
+        let claim = LargeCertificate::Order(order_claim(alloc, &graph, level, &order)?);
+        let labels = Labels::of_large(alloc, &graph)?;
+        let answer = order_answer(alloc, &graph, level, order, labels);
+        let held = HeldGraph::new(alloc, graph)?;
+        Ok(Outcome::Large {
+            graph: held,
+            answer,
+            claim,
+        })
+    }
+
+    /// What is said about a history by the first of its least cycles. What the cycle claims may be judged by an order.
+    fn of_cycle(
+        alloc: Global,
+        level: Level,
+        graph: LargeGraph,
+        links: Vec<Link>,
+        order: &Option<Vec<u32>>,
+    ) -> Result<Outcome, NoMemory>
+        ensures { (s : ℕ) → IsFirstCycle (judged graph level) s links.items → IfOk result (IsFoundOf level graph) }
+    {
+        let claim = LargeCertificate::Cycle(cycle_claim(alloc, &graph, level, &links, order)?);
+        let labels = Labels::of_large(alloc, &graph)?;
+        let answer = cycle_answer(alloc, level, links, labels)?;
+        let held = HeldGraph::new(alloc, graph)?;
+        Ok(Outcome::Large {
+            graph: held,
+            answer,
+            claim,
+        })
+    }
+
+    /// What is said about a history by its first answer, with what its certificate claims. That may be judged by an order.
+    pub(crate) fn of_large(
+        alloc: Global,
+        level: Level,
+        graph: LargeGraph,
+        first: First,
+        order: &Option<Vec<u32>>,
+    ) -> Result<Outcome, NoMemory>
+        ensures { IsFirst (judged graph level) first → IfOk result (IsFoundOf level graph) }
+    {
+        match first {
+            First::Order(placed) => Outcome::of_order(alloc, level, graph, placed),
+            First::Cycle(links) => Outcome::of_cycle(alloc, level, graph, links, order),
         }
     }
 
-    /// The answer, perhaps without its tables; none where there are read faults in its place.
-    pub(crate) fn into_answer(self) -> Option<Answer>
-        ensures found { result ≡ outcome_answer self }
-        ensures status { (required : ℕ) → last_status required result ≡ last_status required (answer_in self) }
+    /// How a run ends whose last answer this is, where this many transactions are required of an order.
+    pub(crate) fn status(&self, required: u32) -> Status
+        ensures { result ≡ outcome_status required self.now }
     {
         match self {
-            ExplainOutcome::Tabled(answer) => Some(answer),
-            ExplainOutcome::Bare { graph, answer } => {
+            Outcome::Unresolved(_) => Status::ReadFaults,
+            Outcome::Tabled { answer, .. }
+            | Outcome::Bare { answer, .. }
+            | Outcome::Large { answer, .. } => answer_status(answer, required),
+        }
+    }
+
+    /// Writes it as text or as a line of JSON; else the run ends with this code.
+    pub(crate) fn send<W: Write>(
+        &self,
+        alloc: Global,
+        options: &Options,
+        out: &mut W,
+    ) -> Result<(), u8>
+        ensures whole { OnOk result (Appends (W.contents out.old) (W.contents out.new) (outcome_text options.now.json self.now)) }
+        ensures ended { IfErr result (EndsIn options.now.json (W.contents out.old) (W.contents out.new) (outcome_text options.now.json self.now)) }
+    {
+        let json = options.json;
+        match self {
+            Outcome::Unresolved(faults) => send_unresolved(alloc, faults, json, out),
+            Outcome::Tabled { answer, .. }
+            | Outcome::Bare { answer, .. }
+            | Outcome::Large { answer, .. } => send_answer(alloc, answer, json, out),
+        }
+    }
+
+    /// The read faults that it reports; none where it reports an answer.
+    pub(crate) fn read_faults(&self) -> &[ReadFault]
+        ensures { (options : Options) → AreSaidFaults options (outcome_said options self.now) result.now }
+    {
+        match self {
+            Outcome::Unresolved(faults) => faults,
+            _ => &[],
+        }
+    }
+
+    /// The links of the cycle, where it has one.
+    pub(crate) fn links(&self) -> Option<&[Link]>
+        ensures { option_map (λ links. links.now) result ≡ outcome_links self.now }
+    {
+        match self {
+            Outcome::Tabled {
+                answer: Answer::Anomaly(anomaly),
+                ..
+            }
+            | Outcome::Bare {
+                answer: Answer::Anomaly(anomaly),
+                ..
+            }
+            | Outcome::Large {
+                answer: Answer::Anomaly(anomaly),
+                ..
+            } => Some(anomaly.links()),
+            _ => None,
+        }
+    }
+
+    /// The answer, where it is one.
+    pub(crate) fn into_answer(self) -> Option<Answer>
+        ensures { result ≡ outcome_answer self }
+    {
+        match self {
+            Outcome::Unresolved(_) => None,
+            Outcome::Tabled { graph, answer } => {
                 drop(graph);
                 Some(answer)
             }
-            ExplainOutcome::Unresolved { .. } => None,
-        }
-    }
-
-    /// The last anomaly, by which the next tables are searched, without its own tables; none where there was none.
-    pub(crate) fn into_anomaly(self, alloc: Global) -> Option<Anomaly>
-        ensures { (level : Level) (s : Sessions) → HasEarlier level s self → IfSome result (IsEarlier level s) }
-    {
-        match self {
-            ExplainOutcome::Tabled(Answer::Anomaly(anomaly)) => Some(anomaly.without_tables(alloc)),
-            ExplainOutcome::Tabled(Answer::Commit(_)) | ExplainOutcome::Bare { .. } => None,
-            ExplainOutcome::Unresolved { earlier, .. } => earlier,
-        }
-    }
-}
-
-impl Printable for ExplainOutcome {
-    ghost use Rattle.std.specs.Prelude.{refl};
-    ghost use Rattle.tcc_run.specs.private.Stages.{course};
-
-    ghost course = { course };
-
-    fn send<W: Write>(&self, alloc: Global, options: &Options, out: &mut W) -> Result<(), u8> {
-        match self {
-            ExplainOutcome::Tabled(answer) | ExplainOutcome::Bare { answer, .. } => {
-                send_answer(alloc, answer, options.json, out)
+            Outcome::Bare { graph, answer } => {
+                drop(graph);
+                Some(answer)
             }
-            ExplainOutcome::Unresolved { faults, .. } => send_unresolved(
-                alloc,
-                faults,
-                options.json,
-                out,
-            ),
+            Outcome::Large { graph, answer, .. } => {
+                drop(graph);
+                Some(answer)
+            }
         }
-    }
-
-    fn read_faults(&self) -> &[ReadFault] {
-        match self {
-            ExplainOutcome::Tabled(_) | ExplainOutcome::Bare { .. } => &[],
-            ExplainOutcome::Unresolved { faults, .. } => faults,
-        }
-    }
-
-    ghost asked = { λ options. refl };
-}
-
-/// The anomaly that was said last, or before the read faults that were said last; none where there was none.
-pub(crate) fn anomaly_of(
-    alloc: Global,
-    last: Option<PreviousAnswer<ExplainOutcome>>,
-) -> Option<Anomaly>
-    ensures { (level : Level) (s : Sessions) → IfSome last (Follows level s) → IfSome result (IsEarlier level s) }
-{
-    match last {
-        Some(last) => last.outcome.into_anomaly(alloc),
-        None => None,
     }
 }

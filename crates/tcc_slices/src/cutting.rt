@@ -9,12 +9,14 @@ ghost use Rattle.tcc_slices.specs.private.Cutting.{AreMetBy, IsCut, IsNamed, IsN
 use crate::needs::Need;
 use std::alloc::Global;
 use tcc_graph::{LargeGraph, source_value};
-use tcc_txn::{Alike, GrowFault, LargeSnapshot, Name, NoMemory, Op, Recorded, Snapshot, Txn};
+use tcc_txn::{
+    Alike, Bounds, GrowFault, Name, NoMemory, Op, Recorded, Snapshot, SnapshotWithin, Txn,
+};
 
 /// What is cut: a snapshot, and the graph that has its transactions by numbers.
 #[derive(Drop)]
-struct Whole<'a> {
-    snapshot: &'a LargeSnapshot,
+struct Whole<'a, B: Bounds> {
+    snapshot: &'a SnapshotWithin<B>,
     graph: &'a LargeGraph,
 }
 
@@ -89,7 +91,7 @@ fn kept(alloc: Global, wanted: &[Op], ops: &[Op]) -> Result<Vec<Op>, NoMemory>
     Ok(kept)
 }
 
-impl<'a> Whole<'a> {
+impl<'a, B: Bounds> Whole<'a, B> {
     /// The transaction of a number; none for `init` and past the last.
     fn recorded(&self, number: u32) -> Option<Recorded<'a>>
         ensures { result ≡ recorded_of self.now.snapshot.now self.now.graph.now number }
@@ -179,9 +181,9 @@ fn own_needs(needs: &[(u32, Need)], number: u32) -> &[(u32, Need)]
 
 /// The cut of a snapshot by needs, with what is kept of the transactions of these numbers but the first. There is none where one of
 /// them isn't committed, or where they are more than a snapshot takes.
-pub(crate) fn cut(
+pub(crate) fn cut<B: Bounds>(
     alloc: Global,
-    snapshot: &LargeSnapshot,
+    snapshot: &SnapshotWithin<B>,
     graph: &LargeGraph,
     needs: &[(u32, Need)],
     numbers: &[u32],

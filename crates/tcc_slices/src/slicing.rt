@@ -12,7 +12,7 @@ use crate::numbering::{in_slice, numbers_of};
 use std::alloc::Global;
 use tcc_graph::{Graph, LargeGraph, Level, Link, is_cycle};
 use tcc_reads::{ResolveFault, resolve};
-use tcc_txn::{LargeSnapshot, NoMemory, Snapshot};
+use tcc_txn::{Bounds, NoMemory, Snapshot, SnapshotWithin};
 
 /// The graph of a snapshot; none where some reads have faults.
 fn graph_of(alloc: Global, snapshot: &Snapshot) -> Result<Option<Graph>, NoMemory>
@@ -52,15 +52,15 @@ fn is_slice(
     Ok(is_cycle(&graph, level, &own) && is_carried(&graph, whole, numbers))
 }
 
-/// The slice of a snapshot by the links of a cycle: of their transactions the operations that the links need, each once, and no others, in
+/// The slice of a snapshot of any size by the links of a cycle: of their transactions the operations that the links need, each once, and no others, in
 /// the order of the whole. Its reads are resolved. By a map of numbers each of its links is one of the whole, so each of its anomalies is
 /// one too, of the same cost. By this map these links are a cycle of it at the level. Each session's transactions are some of its
 /// transactions in the whole, each with some of its operations, in their order. Say the graph is the snapshot's, all of whose reads
 /// are resolved, and the links are a cycle of it. Then there is none only where they need more transactions, or those of more
 /// sessions, than a snapshot may have.
-pub fn slice(
+pub fn slice<B: Bounds>(
     alloc: Global,
-    snapshot: &LargeSnapshot,
+    snapshot: &SnapshotWithin<B>,
     graph: &LargeGraph,
     level: Level,
     links: &[Link],

@@ -16,7 +16,7 @@ use Rattle.tcc_print.specs.declared.options.Options.{Options}
 use Rattle.tcc_print.specs.declared.status.Status.{Status}
 use Rattle.tcc_print.specs.declared.status.Status.TheVariants.{Anomaly, ReadFaults, Success, TooFew}
 use Rattle.tcc_run.specs.LargeRuns.{IsExplained}
-use Rattle.tcc_run.specs.declared.large.explained.Explained.{Explained}
+use Rattle.tcc_run.specs.declared.explained.Explained.{Explained}
 use Rattle.tcc_watch_run.specs.Watching.{IsAnomaly, consistent_line, consistent_said, still_line, still_said}
 use Rattle.tcc_watch_run.specs.declared.told.SnapshotAnswer.{SnapshotAnswer}
 use Rattle.tcc_watch_run.specs.private.Stages.{IsAsExplained, Knows, KnowsNow, course, told_said}

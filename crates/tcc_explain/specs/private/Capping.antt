@@ -5,10 +5,6 @@ use Rattle.tcc_graph.specs.Levels.{Judged}
 use Rattle.tcc_graph.specs.Tables.{row_of}
 use Rattle.tcc_core.specs.Shares.{IsCappedDistance}
 
--- there is a cost, and it is no more than n
-abbrev pub IsAtMost : Option ℕ → ℕ → Type 0
-IsAtMost found n = (c : ℕ) × (found ≡ Some c) × (c ≤ n)
-
 -- a row from each transaction, which has the distances of all from there upward, capped
 pub record AreFarRows (j : Judged) (cap : ℕ) (rows : List (List (Option ℕ))) : Type 0 where
   pub long : length rows ≡ count j.history

@@ -10,14 +10,14 @@ use Rattle.tcc_slices.proofs.Nothing.{has_name, has_part, no_room}
 use Rattle.tcc_slices.proofs.cutting.cut.Goals as goal
 
 pub loop-index-init : goal.loop-index-init
-loop-index-init c = (
+loop-index-init g c = (
   omega arith,
   none_cut c.args.snapshot.now c.args.graph.now c.numbered.ensures.numbered c.args.needs.now c.args.numbers.now c.requires.rising c.empty-slice.result
       c.empty-slice.ensures,
 )
 
 pub loop-index-preserved : goal.loop-index-preserved
-loop-index-preserved c =
+loop-index-preserved g c =
     let s = c.args.snapshot.now in
     let h = c.args.graph.now in
     let index : ℕ = c.loop-index.index in
@@ -30,20 +30,20 @@ loop-index-preserved c =
     )
 
 pub returns-clause-cut : goal.returns-clause-cut
-returns-clause-cut c =
+returns-clause-cut g c =
     let all : c.loop-index.index ≡ length c.args.numbers.now
     = omega (arith, c.loop-index-test.false, c.loop-index.auto.index-end, c.requires.some) in
     subst (λ (z : ℕ). IsCut c.args.snapshot.now c.args.graph.now c.args.needs.now c.args.numbers.now z c.loop-index.slice) all c.loop-index.invariant.1
 
 pub returns-clause-left : goal.returns-clause-left
-returns-clause-left c =
+returns-clause-left g c =
     let all : c.loop-index.index ≡ length c.args.numbers.now
     = omega (arith, c.loop-index-test.false, c.loop-index.auto.index-end, c.requires.some) in
     cut_of c.args.snapshot.now c.loop-index.slice c.args.graph.now c.args.needs.now c.args.numbers.now c.numbered.ensures.numbered c.requires.rising
     (subst (λ (z : ℕ). IsCut c.args.snapshot.now c.args.graph.now c.args.needs.now c.args.numbers.now z c.loop-index.slice) all c.loop-index.invariant.1)
 
 pub returns-in_default-clause-none : goal.returns-in_default-clause-none
-returns-in_default-clause-none c = λ found links same met.
+returns-in_default-clause-none g c = λ found links same met.
     let index : ℕ = c.loop-index.index in
     let here = met index c.loop-index.invariant.0 c.loop-index-test.true in
     let up = c.requires.rising 0 index c.loop-index.invariant.0 c.loop-index-test.true in
@@ -51,7 +51,7 @@ returns-in_default-clause-none c = λ found links same met.
     (rw c.in_default.is at c.session_of.ensures))
 
 pub returns-in_default-2-clause-none : goal.returns-in_default-2-clause-none
-returns-in_default-2-clause-none c = λ found links same met.
+returns-in_default-2-clause-none g c = λ found links same met.
     let index : ℕ = c.loop-index.index in
     let here = met index c.loop-index.invariant.0 c.loop-index-test.true in
     let up = c.requires.rising 0 index c.loop-index.invariant.0 c.loop-index-test.true in
@@ -64,7 +64,7 @@ too_many fault (inl sessions) memory = cc
 too_many fault (inr transactions) memory = cc
 
 pub returns-in-TooManySessions-clause-none : goal.returns-in-TooManySessions-clause-none
-returns-in-TooManySessions-clause-none c =
+returns-in-TooManySessions-clause-none g c =
     let s = c.args.snapshot.now in
     let h = c.args.graph.now in
     let index : ℕ = c.loop-index.index in

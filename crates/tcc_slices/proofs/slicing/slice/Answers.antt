@@ -15,7 +15,7 @@ use Rattle.tcc_slices.proofs.Told.{all_met, told_back}
 use Rattle.tcc_slices.proofs.slicing.slice.Goals as goal
 
 pub returns-then-branch-clause-links : goal.returns-then-branch-clause-links
-returns-then-branch-clause-links c =
+returns-then-branch-clause-links g c =
     let s = c.args.snapshot.now in
     let h = c.args.graph.now in
     let links = c.args.links.now in
@@ -40,10 +40,10 @@ returns-then-branch-clause-links c =
     }
 
 pub is_slice-requires : goal.is_slice-requires
-is_slice-requires c = rw c.deref-2.ensures.value c.in_ok-numbers.ensures.rising
+is_slice-requires g c = rw c.deref-2.ensures.value c.in_ok-numbers.ensures.rising
 
 pub returns-in_default-clause-none : goal.returns-in_default-clause-none
-returns-in_default-clause-none c = λ found same none cycle.
+returns-in_default-clause-none g c = λ found same none cycle.
     let h = c.args.graph.now in
     let links = c.args.links.now in
     let needs : List (ℕ × Need) = c.in_ok-needs.needs.each.items in
@@ -54,7 +54,7 @@ returns-in_default-clause-none c = λ found same none cycle.
     c.in_ok-slice.ensures.none c.in_default.is links same (rw c.deref.ensures.value met)
 
 pub returns-clause-none : goal.returns-clause-none
-returns-clause-none c = λ found same none cycle.
+returns-clause-none g c = λ found same none cycle.
     let s = c.args.snapshot.now in
     let h = c.args.graph.now in
     let links = c.args.links.now in

@@ -8,7 +8,7 @@ use Rattle.tcc_slices.proofs.Named.{none_some}
 use Rattle.tcc_slices.proofs.cutting.Whole.part.Goals as goal
 
 pub unreachable-requires : goal.unreachable-requires
-unreachable-requires c =
+unreachable-requires g c =
     let ops : List Op = c.deref-2.result.now in
     let same : c.deref-2.result.now ≡ c.in-Some.whole.ops = c.deref-2.ensures.value ∙ c.in_ok-fill.ensures.value in
     let lawful : txn_fault ops ≡ None = ap txn_fault same ∙ c.fill.ensures.lawful in

@@ -3,4 +3,4 @@ use Rattle.tcc_slices.specs.private.Cutting.{wanted_by}
 use Rattle.tcc_slices.proofs.cutting.Whole.wanted_ops.Given as goal
 
 abbrev pub invariant-loop-one : goal.invariant-loop-one
-invariant-loop-one l = l.wanted.items ≡ wanted_by l.self.snapshot.now l.self.graph.now (take l.one-index l.own) l.number
+invariant-loop-one g l = l.wanted.items ≡ wanted_by l.self.snapshot.now l.self.graph.now (take l.one-index l.own) l.number

@@ -1,5 +1,0 @@
-use Rattle.std.proofs.Common.{refl}
-use Rattle.tcc_run.proofs.large.outcome.LargeOutcome.of_small.Goals as goal
-
-pub returns : goal.returns
-returns c = λ is. rw c.in_ok-held.ensures (c.in_ok-answer.answer, refl, c.in_ok-answer.ensures is)
