@@ -57,13 +57,13 @@ module _ (level : Level) (h : History) (links : List Link) where
   pub made_by_order : (order : Option (List ℕ)) (k : LinksClaim) → IsClaimByOrder level h links order (Some k)
       → IsClaimedWhereProvable level h links order k
   made_by_order None k none = tt
-  made_by_order (Some order) k made none provable = says_least k (runs_told h order) made.0 none
+  made_by_order (Some order) k made = λ none provable. says_least k (runs_told h order) made.0 none
 
   -- else it can't be proved
   pub not_by_order : (order : Option (List ℕ)) (k : LinksClaim) → IsClaimByOrder level h links order None
       → IsClaimedWhereProvable level h links order k
   not_by_order None k none = tt
-  not_by_order (Some order) k refused none provable = refused provable
+  not_by_order (Some order) k refused = λ none provable. refused provable
 
 module _ (level : Level) (h : History) (links : List Link) (k : LinksClaim)
     (room : (least : Option (List Run)) → HasLeastText least → HasLinksClaimText (links_claim_of level h links least)) where

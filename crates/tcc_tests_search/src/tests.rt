@@ -10,6 +10,5 @@ mod large;
 mod near;
 mod order;
 mod packed;
-mod side_by_side;
 mod workers;
 mod world;

@@ -5,11 +5,11 @@ use Rattle.tcc_run.proofs.claims.long_claim.Goals as goal
 
 pub returns-in-Some-clause-claim : goal.returns-in-Some-clause-claim
 returns-in-Some-clause-claim c =
-    long_by_order c.args.level c.args.graph.now c.args.links.now _ _ (rw c.in-Some.is at c.in_ok-claim_by_order.ensures)
+    long_by_order c.args.level c.args.graph.now c.args.links.now _ _ (rw c.in-Some.is at c.in_ok-claim.ensures)
 
 pub returns-in-Some-clause-made : goal.returns-in-Some-clause-made
 returns-in-Some-clause-made c =
-    made_by_order c.args.level c.args.graph.now c.args.links.now _ _ (rw c.in-Some.is at c.in_ok-claim_by_order.ensures)
+    made_by_order c.args.level c.args.graph.now c.args.links.now _ _ (rw c.in-Some.is at c.in_ok-claim.ensures)
 
 pub returns-in-None-clause-claim : goal.returns-in-None-clause-claim
 returns-in-None-clause-claim c = IfOk-weaker c.links_claim.result _ _ (λ claim same. inl same) c.links_claim.ensures
@@ -17,5 +17,5 @@ returns-in-None-clause-claim c = IfOk-weaker c.links_claim.result _ _ (λ claim 
 pub returns-in-None-clause-made : goal.returns-in-None-clause-made
 returns-in-None-clause-made c =
     IfOk-weaker c.links_claim.result _ _
-    (λ claim same. not_by_order c.args.level c.args.graph.now c.args.links.now _ claim (rw c.in-None.is at c.in_ok-claim_by_order.ensures))
+    (λ claim same. not_by_order c.args.level c.args.graph.now c.args.links.now _ claim (rw c.in-None.is at c.in_ok-claim.ensures))
     c.links_claim.ensures
