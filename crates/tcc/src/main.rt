@@ -2,6 +2,8 @@
 //! that; `tcc check` judges one; `tcc survey` lists the contradicted reads of a history. `tcc watch` answers while records come.
 #![tactic(auto)]
 
+mod batch;
+mod names;
 mod watch;
 mod watched;
 
@@ -383,6 +385,7 @@ fn main(rt: HostRuntime) -> ExitCode {
             };
             watch_records(&rt, &rt, options, history.as_deref(), &mut out)
         }
+        Ok(Request::Batch(asked)) => batch::batch(&rt, &rt, &asked, &mut out),
         Ok(Request::Check(files)) => {
             let (history, certificate) = (files.history.as_str(), files.certificate.as_str());
             if files.large {
