@@ -6,7 +6,8 @@
 Some histories are consistent, some have an anomaly, a read fault or a record that breaks a rule, and some have seals. Of these the
 line is that of the last answer. Both levels, with and without `--large`, by 1, 2 and 5 workers; as text, as JSON and as a report in
 JUnit's form; with and without the lines of consistent histories. Files, folders and names of standard input are named in some order,
-a file twice. Then come what can't be opened, a folder without files, and a report that would take the place of a history.
+a file twice. Then come what can't be opened, a folder without files, and a report that would take the place of a history; and what
+`tcc explain` says to do with a folder, a history in EDN and a compressed one.
 
 Each difference is one line; the last line is `N passed, M failed`.
 """
@@ -175,6 +176,21 @@ def of_corners(program: Program, name: str) -> Iterator[Outcome]:
     yield "a report that can't be made", wrong_with(program.run("batch", "--json", "--junit", "none/report.xml", name), ['{"answer":"device"}'], DEVICE)
 
 
+def of_advice(program: Program) -> Iterator[Outcome]:
+    """What has no records: the last line of standard error says what to do with it. A file of records is passed over, whatever its name."""
+    folder = pathlib.Path(program.folder)
+    (folder / "history.edn").write_text("{:type :invoke, :f :read}\n")
+    (folder / "records.csv.gz").write_bytes(b"\x1f\x8b\x08\x00")
+    (folder / "records.edn").write_text("a,begin\na,commit\n")
+    for name, status, advice in (("history.edn", 3, "it is no file of records: recipes/jepsen.py makes one of a history in EDN"),
+                                 ("records.csv.gz", 3, "it is compressed: pipe what 'gunzip -c' writes into tcc"),
+                                 ("two", DEVICE, "it is a folder: 'tcc batch' judges each file of it")):
+        ran, last = program.run("explain", name), "%s: %s" % (name, advice)
+        yield name, None if ran.status == status and ran.errors.splitlines()[-1:] == [last] else "status %d, %r" % (ran.status, ran.errors)
+    ran = program.run("explain", "records.edn")
+    yield "records.edn", None if (ran.status, ran.errors) == (0, "") else "status %d, %r" % (ran.status, ran.errors)
+
+
 def outcomes(tcc: List[str], count: int, seed: int) -> Iterator[Outcome]:
     dice = random.Random(seed)
     tcc = [str(pathlib.Path(tcc[0]).resolve()), *tcc[1:]]
@@ -184,6 +200,7 @@ def outcomes(tcc: List[str], count: int, seed: int) -> Iterator[Outcome]:
         for way in WAYS:
             yield from guarded("batch " + " ".join(way), of_way(program, dice, names, way))
         yield from guarded("corners", of_corners(program, names[0]))
+        yield from guarded("advice", of_advice(program))
 
 
 def main() -> int:

@@ -10,7 +10,7 @@ use std::thread::{self, Threads};
 use std::time::Clock;
 use tcc_base::{Progress, send};
 use tcc_batch::{
-    BatchOptions, Finding, History, LineOptions, Limits, Report, judge_each, junit_text,
+    BatchOptions, Finding, History, Limits, LineOptions, Report, judge_each, junit_text,
     print_lines, print_summary, worst_code,
 };
 use tcc_cli::{

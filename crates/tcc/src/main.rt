@@ -2,11 +2,13 @@
 //! that; `tcc check` judges one; `tcc survey` lists the contradicted reads of a history. `tcc watch` answers while records come.
 #![tactic(auto)]
 
+mod advice;
 mod batch;
 mod names;
 mod watch;
 mod watched;
 
+use advice::advise;
 use std::io::{ErrorKind, Write};
 use std::process::ExitCode;
 use std::sync::Wait;
@@ -188,7 +190,7 @@ fn explain_records<W: Write>(
     manner: Manner,
     out: &mut W,
 ) -> u8 {
-    match open_input(rt, history) {
+    let code = match open_input(rt, history) {
         Ok(input) => {
             if manner.large {
                 explain_large(rt, threads, options, input, paths, manner.quiet, out)
@@ -197,7 +199,9 @@ fn explain_records<W: Write>(
             }
         }
         Err(error) => print_unopened(error.kind(), options.json, out),
-    }
+    };
+    advise(rt, history, code);
+    code
 }
 
 /// How many bytes the records have, if they are those of a file; else 0.

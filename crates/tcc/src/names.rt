@@ -6,7 +6,7 @@ use std::os::unix::fs::MetadataExt;
 use std::path::AsPath;
 
 /// Whether the path is that of a folder.
-fn is_folder(rt: &HostRuntime, path: &str) -> bool {
+pub fn is_folder(rt: &HostRuntime, path: &str) -> bool {
     match fs::metadata(rt, path) {
         Ok(told) => told.is_dir(),
         Err(_) => false,
