@@ -2,7 +2,7 @@
 //!
 //! Needs: a cycle or an order, and the form of certificates (`tcc_graph`, `tcc_cert`).
 //! Must hold: text, JSON and certificate are those of one answer.
-//! Kept for callers: `push_links_json`.
+//! Kept for callers: `Anomaly::without_tables`, `push_links_json`.
 #![tactic(auto)]
 
 mod answer;

@@ -3,6 +3,7 @@
 //!
 //! Needs: nothing but names of limits (`tcc_txn`).
 //! Must hold: a packed row is seen as the list of its values, whatever its width.
+//! Kept for callers: `PackedRow::unpacked`.
 #![tactic(auto)]
 
 mod bits;

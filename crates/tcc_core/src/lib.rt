@@ -3,6 +3,7 @@
 //!
 //! Needs: prices (`tcc_derive`).
 //! Must hold: a search returns the least cost from its start below its bound, and nothing else settles it.
+//! Kept for callers: `first_cycle`, `seed`.
 #![tactic(auto)]
 
 mod again;

@@ -2,6 +2,7 @@
 //!
 //! Needs: a graph and its walk lengths (`tcc_near`).
 //! Must hold: a price is the least cost of a derived link by any reader; the reason is the first that costs so much.
+//! Kept for callers: `first_name`, `reason`.
 #![tactic(auto)]
 
 mod bucket;

@@ -2,6 +2,7 @@
 //!
 //! Needs: first answers (`tcc_answering`), and what the tables of a small history take (`tcc_near`, `tcc_derive`, `tcc_steal`).
 //! Must hold: the answer is the first one by the rule of ties, and the checker accepts its certificate.
+//! Kept for callers: `explain`, `explain_next`.
 #![tactic(auto)]
 
 mod distances;

@@ -2,6 +2,7 @@
 //!
 //! Needs: answers, verdicts and faults (`tcc_answer`, `tcc_rules`, `tcc_rows`, `tcc_reads`).
 //! Must hold: what is printed is the text that a definition gives, or a part of it where the writer fails.
+//! Kept for callers: `status::last_status`.
 #![tactic(auto)]
 
 pub mod json;

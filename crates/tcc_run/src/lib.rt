@@ -4,7 +4,7 @@
 //!
 //! Needs: answers (`tcc_answering`, `tcc_explain`) and what is printed (`tcc_print`).
 //! Must hold: what is written is what a definition says of the records' bytes, at each seal and at the end.
-//! Kept for callers: `audit`, `names`, `explain_snapshot`, `explain_snapshot_next`.
+//! Kept for callers: `audit`, `explain_snapshot`, `explain_snapshot_next`, `names`.
 #![tactic(auto)]
 
 mod audit_fault;

@@ -3,6 +3,7 @@
 //!
 //! Needs: a cycle of a graph (`tcc_graph`).
 //! Must hold: the slice's cycle is that of the whole, and its reads have their sources.
+//! Kept for callers: `first_missing`.
 #![tactic(auto)]
 
 mod by_label;
