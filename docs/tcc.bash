@@ -10,9 +10,9 @@ _tcc() {
     fi
     COMPREPLY=()
     if [ "$COMP_CWORD" -eq 1 ]; then
-        COMPREPLY=($(compgen -W 'explain survey watch batch check limits help --help --version' -- "$word"))
+        COMPREPLY=($(compgen -W 'explain survey watch check limits help --help --version' -- "$word"))
     elif [ "$command" = help ]; then
-        COMPREPLY=($(compgen -W 'explain survey watch batch check limits' -- "$word"))
+        COMPREPLY=($(compgen -W 'explain survey watch check limits' -- "$word"))
     elif [ "$command" = explain ]; then
         case $before in
             --level) COMPREPLY=($(compgen -W 'causal atomic' -- "$word")) ;;
@@ -29,13 +29,6 @@ _tcc() {
         case $before in
             --level) COMPREPLY=($(compgen -W 'causal atomic' -- "$word")) ;;
             *) [[ $word == -* ]] && COMPREPLY=($(compgen -W '--level --json --help' -- "$word")) ;;
-        esac
-    elif [ "$command" = batch ]; then
-        case $before in
-            --level) COMPREPLY=($(compgen -W 'causal atomic' -- "$word")) ;;
-            --workers) COMPREPLY=($(compgen -W '1 2 4 8 16 32' -- "$word")) ;;
-            --junit) ;;
-            *) [[ $word == -* ]] && COMPREPLY=($(compgen -W '--level --workers --large --json --failures --junit --help' -- "$word")) ;;
         esac
     elif [ "$command" = check ] && [[ $word == -* ]]; then
         COMPREPLY=($(compgen -W '--large --help' -- "$word"))

@@ -31,8 +31,8 @@ GATE = ["rt", "ci"]
 MUTANTS = "wrong/run.py --beside-gate"
 ON_THE_PROGRAM = ("rows/run.py --workers 32", "certificates/run.py", "memory/run.py",
                   "rows/run.py --workers 2 --searched", "rows/run.py --checker", "recipes/run.py", "large/run.py", "survey/run.py",
-                  "python/run.py", "docs/run.py", "seals/run.py", "watch/run.py", "batch/run.py", "rows/numbers.py", "rows/filled.py", "rows/options.py",
-                  "rows/commands.py", "certificates/rechecked.py", "wrong/trial.py", "scheduled.py")
+                  "python/run.py", "docs/run.py", "seals/run.py", "watch/run.py", "rows/numbers.py", "rows/filled.py", "rows/options.py",
+                  "rows/commands.py", "rows/advice.py", "certificates/rechecked.py", "wrong/trial.py", "scheduled.py")
 # (these go by time, and by a terminal)
 ALONE = ("large/watched.py", "hostile/run.py")
 CLOSING = re.compile(r"(\d+) passed, (\d+) failed$")

@@ -1,12 +1,20 @@
 //! What to do with a file that has no records.
 
-use crate::names::is_folder;
+use std::fs;
 use tcc_run::Status;
+
+/// Whether the path is that of a folder.
+fn is_folder(rt: &HostRuntime, path: &str) -> bool {
+    match fs::metadata(rt, path) {
+        Ok(found) => found.is_dir(),
+        Err(_) => false,
+    }
+}
 
 /// What to do with the file at a path, if what it is, or its name, says that it has no records.
 fn advice_on(rt: &HostRuntime, path: &str) -> Option<&'static str> {
     if is_folder(rt, path) {
-        Some("it is a folder: 'tcc batch' judges each file of it")
+        Some("it is a folder: name a file of it, or let tcc-fleet judge each")
     } else if path.ends_with(".edn") {
         Some("it is no file of records: recipes/jepsen.py makes one of a history in EDN")
     } else if path.ends_with(".gz") {

@@ -3,8 +3,6 @@
 #![tactic(auto)]
 
 mod advice;
-mod batch;
-mod names;
 mod watch;
 mod watched;
 
@@ -389,7 +387,6 @@ fn main(rt: HostRuntime) -> ExitCode {
             };
             watch_records(&rt, &rt, options, history.as_deref(), &mut out)
         }
-        Ok(Request::Batch(asked)) => batch::batch(&rt, &rt, &asked, &mut out),
         Ok(Request::Check(files)) => {
             let (history, certificate) = (files.history.as_str(), files.certificate.as_str());
             if files.large {

@@ -11,7 +11,7 @@ use Rattle.clap.specs.declared.error.kind.ErrorKind.TheVariants.{InvalidValue, M
 use Rattle.clap.specs.declared.error.kind.ErrorKind.TheVariants.{TooManyValues, UnknownArgument, ValueValidation}
 use Rattle.clap.proofs.OnLiterals.{clap_on_literals}
 use Rattle.tcc_graph.specs.declared.level.Level.TheVariants.{Causal, Atomic}
-use Rattle.tcc_cli.specs.CommandLines.{AreLevels, Words, certificate_path, flag_text, history_path, level_text, level_word, many_text, option_text, required_text, slice_path, tcc_command, workers_text}
+use Rattle.tcc_cli.specs.CommandLines.{AreLevels, Words, certificate_path, flag_text, history_path, level_text, level_word, required_text, slice_path, tcc_command, workers_text}
 
 -- clap says exactly when a parse by it fails, and of which kinds the fault may be
 pub is_exact : (levels : Words) → is_simple_and_free (tcc_command levels) ≡ true
@@ -150,40 +150,6 @@ watch_read : (faults (codes "watch" ∷ watch_line) ≡ []) × (watch_asks watch
 unfolding clap_on_literals
 watch_read = (refl, refl)
 
--- ---- batch
-
--- what is read after it: the subcommand that was met, level, workers, flags, the path of the report, and the files
-abbrev batch_asks : List Text → Option Text × Option Text × Option Text × Option Text × Option Text × Option Text × Option Text × List Text
-batch_asks words =
-    let met = subcommand_of program (codes "tcc" ∷ codes "batch" ∷ words) in (
-      option_map (λ entered. entered.0) met,
-      level_text met,
-      workers_text met,
-      flag_text (codes "large") met,
-      flag_text (codes "json") met,
-      flag_text (codes "failures") met,
-      option_text (codes "junit") met,
-      many_text (codes "files") met,
-    )
-
--- files come in their order, wherever options stand between them
-abbrev batch_line : List Text
-batch_line =
-    codes "--failures" ∷ codes "one.csv" ∷ codes "--junit" ∷ codes "r.xml" ∷ codes "-" ∷ codes "--workers=4" ∷ codes "two" ∷ []
-
-batch_read : (faults (codes "batch" ∷ batch_line) ≡ []) × (batch_asks batch_line ≡ (
-  Some (codes "batch"),
-  Some (codes "causal"),
-  Some (codes "4"),
-  Some (codes "false"),
-  Some (codes "false"),
-  Some (codes "true"),
-  Some (codes "r.xml"),
-  codes "one.csv" ∷ codes "-" ∷ codes "two" ∷ [],
-))
-unfolding clap_on_literals
-batch_read = (refl, refl)
-
 -- ---- limits
 
 -- what is read after it: the subcommand that was met, and the flag
@@ -266,8 +232,6 @@ faulty_lines =
     ∷ (codes "explain" ∷ codes "--json=true" ∷ [], TooManyValues ∷ [])
     ∷ (codes "explain" ∷ codes "--json" ∷ codes "--json" ∷ [], ArgumentConflict ∷ [])
     ∷ (codes "explain" ∷ codes "--colour" ∷ [], UnknownArgument ∷ [])
-    -- a batch is of some file
-    ∷ (codes "batch" ∷ codes "--json" ∷ [], MissingRequiredArgument ∷ [])
     -- a watch takes no certificate
     ∷ (codes "watch" ∷ codes "--certificate=c.txt" ∷ [], UnknownArgument ∷ [])
     -- the limits are of no file, and are printed whole

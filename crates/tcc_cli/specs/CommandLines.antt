@@ -6,19 +6,17 @@ use Rattle.std.specs.Borrow.{Bor}
 use Rattle.std.specs.String.{string_bytes}
 use Rattle.std.specs.Str.Parse.{digits_value, without_leading_plus}
 use Rattle.clap.specs.Values.{IsUnsignedIn}
-use Rattle.clap.specs.Walk.{Row, Rule, Text, all_of, first_of, one_of}
+use Rattle.clap.specs.Walk.{Row, Rule, Text, first_of, one_of}
 use Rattle.clap.specs.Simple.{App, Shape, new_app, new_rule, on_top, subcommand_of, with_rule, with_subcommand}
-use Rattle.clap.specs.declared.builder.action.ArgAction.TheVariants.{Append, SetTrue}
+use Rattle.clap.specs.declared.builder.action.ArgAction.TheVariants.{SetTrue}
 use Rattle.clap.specs.declared.builder.value_parser.ValueParser.{ValueParser}
 use Rattle.clap.specs.declared.builder.value_parser.ValueParser.TheVariants.{Names, Unsigned}
 use Rattle.clap.specs.Faults.{fault_of}
 use Rattle.clap.specs.Kinds.{IsAmong}
 use Rattle.clap.specs.declared.error.kind.ErrorKind.{ErrorKind}
 use Rattle.clap.specs.declared.error.kind.ErrorKind.TheVariants.{ArgumentConflict, DisplayHelp, DisplayVersion, OutOfMemory}
-use Rattle.tcc_cli.specs.declared.command_line.Batch.{Batch}
 use Rattle.tcc_cli.specs.declared.command_line.Files.{Files}
 use Rattle.tcc_cli.specs.declared.command_line.Request.{Request}
-use Rattle.tcc_cli.specs.declared.command_line.Request.TheVariants as request
 use Rattle.tcc_cli.specs.declared.command_line.Request.TheVariants.{Explain, Survey, Watch, Check, Limits}
 use Rattle.tcc_graph.specs.declared.level.Level.{Level}
 use Rattle.tcc_graph.specs.declared.level.Level.TheVariants.{Causal, Atomic}
@@ -102,21 +100,6 @@ watch_command levels =
     let judged : App = with_rule (new_app (codes "watch")) (level_option levels) in
     with_rule (with_rule judged (flag (codes "json"))) (path (codes "history") false)
 
--- --junit PATH
-abbrev pub junit_option : Rule
-junit_option = path_option (codes "junit")
-
--- paths, at least one
-abbrev pub files_path : Rule
-files_path = record (new_rule (codes "files")) { value_names = 1; required = true; action = Some Append }
-
--- batch [--level LEVEL] [--workers N] [--large] [--json] [--failures] [--junit PATH] FILE|FOLDER ..
-abbrev pub batch_command : Words → App
-batch_command levels =
-    let judged : App = with_rule (with_rule (new_app (codes "batch")) (level_option levels)) workers_option in
-    let lined : App = with_rule (with_rule (with_rule judged (flag (codes "large"))) (flag (codes "json"))) (flag (codes "failures")) in
-    with_rule (with_rule lined junit_option) files_path
-
 -- check [--large] HISTORY CERTIFICATE
 abbrev pub check_command : App
 check_command =
@@ -132,8 +115,7 @@ abbrev pub tcc_command : Words → App
 tcc_command levels =
     let named : App = on_top with_subcommand_required (on_top with_version (new_app (codes "tcc"))) in
     let asked : App = with_subcommand (with_subcommand named (explain_command levels).top) (survey_command levels).top in
-    let many : App = with_subcommand (with_subcommand asked (watch_command levels).top) (batch_command levels).top in
-    with_subcommand (with_subcommand many check_command.top) limits_command.top
+    with_subcommand (with_subcommand (with_subcommand asked (watch_command levels).top) check_command.top) limits_command.top
 
 -- what clap reads of a flag in the matches of a subcommand that was met
 abbrev pub flag_text : Text → Option (Text × List Row) → Option Text
@@ -147,10 +129,6 @@ IsFlag text set =
 -- what clap finds for an option in the matches of a subcommand that was met
 abbrev pub option_text : Text → Option (Text × List Row) → Option Text
 option_text id met = option_and_then (first_of id) (option_map (λ entered. entered.1) met)
-
--- all that clap finds for an argument that may be given several times
-abbrev pub many_text : Text → Option (Text × List Row) → List Text
-many_text id met = unwrap_or (option_and_then (all_of id) (option_map (λ entered. entered.1) met)) []
 
 -- for the level
 abbrev pub level_text : Option (Text × List Row) → Option Text
@@ -213,7 +191,6 @@ AsksExplain met (Explain options history certificate large slice quiet full) =
 AsksExplain met (Survey level json large history) = ⊥
 AsksExplain met (Watch level json history) = ⊥
 AsksExplain met (Check files) = ⊥
-AsksExplain met (request.Batch batch) = ⊥
 AsksExplain met (Limits json) = ⊥
 
 -- the list is in lines of JSON and within the large limits by the flags, at the level of the word; the records are those of the file
@@ -224,7 +201,6 @@ AsksSurvey met (Survey level json large history) =
 AsksSurvey met (Explain options history certificate large slice quiet full) = ⊥
 AsksSurvey met (Watch level json history) = ⊥
 AsksSurvey met (Check files) = ⊥
-AsksSurvey met (request.Batch batch) = ⊥
 AsksSurvey met (Limits json) = ⊥
 
 -- each answer is a line of JSON by the flag, at the level of the word; the records are those of the file
@@ -234,7 +210,6 @@ AsksWatch met (Watch level json history) =
 AsksWatch met (Explain options history certificate large slice quiet full) = ⊥
 AsksWatch met (Survey level json large history) = ⊥
 AsksWatch met (Check files) = ⊥
-AsksWatch met (request.Batch batch) = ⊥
 AsksWatch met (Limits json) = ⊥
 
 -- the limits are a line of JSON by the flag
@@ -244,18 +219,6 @@ AsksLimits met (Explain options history certificate large slice quiet full) = �
 AsksLimits met (Survey level json large history) = ⊥
 AsksLimits met (Watch level json history) = ⊥
 AsksLimits met (Check files) = ⊥
-AsksLimits met (request.Batch batch) = ⊥
-
--- it is at the level of the word, by as many workers as the word says, and by the flags within the large limits, in lines of JSON and without
--- those of consistent histories. The report goes to its path, if there is one, and the files are those that are named
-pub record AsksBatch (met : Option (Text × List Row)) (batch : Batch) : Type 0 where
-  pub level : IsLevel (level_text met) batch.level
-  pub workers : IsWorkers (workers_text met) batch.workers
-  pub large : IsFlag (flag_text (codes "large") met) batch.large
-  pub json : IsFlag (flag_text (codes "json") met) batch.json
-  pub failures : IsFlag (flag_text (codes "failures") met) batch.failures
-  pub junit : option_map string_bytes batch.junit ≡ option_text (codes "junit") met
-  pub files : map string_bytes batch.files.items ≡ many_text (codes "files") met
 
 -- the paths are those that clap finds, and it is within the large limits by the flag
 abbrev pub AsksFiles : List Row → Files → Type 0
@@ -263,19 +226,17 @@ AsksFiles rows files =
     (first_of (codes "history") rows ≡ Some (string_bytes files.history)) × (first_of (codes "certificate") rows ≡ Some (string_bytes files.certificate))
     × IsFlag (one_of (codes "large") rows) files.large
 
--- what the subcommand that was met asks for: a check by its name with its two paths; a survey, a watch, a batch or the limits by its name; else
+-- what the subcommand that was met asks for: a check by its name with its two paths; a survey, a watch or the limits by its name; else
 -- answers
 abbrev pub AsksBy : Option (Text × List Row) → Request → Type 0
 AsksBy met (Explain options history certificate large slice quiet full) =
     (option_map (λ entered. entered.0) met ≢ Some (codes "check")) × (option_map (λ entered. entered.0) met ≢ Some (codes "survey"))
     × (option_map (λ entered. entered.0) met ≢ Some (codes "watch")) × (option_map (λ entered. entered.0) met ≢ Some (codes "limits"))
-    × (option_map (λ entered. entered.0) met ≢ Some (codes "batch"))
     × AsksExplain met (Explain options history certificate large slice quiet full)
 AsksBy met (Survey level json large history) =
     (option_map (λ entered. entered.0) met ≡ Some (codes "survey")) × AsksSurvey met (Survey level json large history)
 AsksBy met (Watch level json history) = (option_map (λ entered. entered.0) met ≡ Some (codes "watch")) × AsksWatch met (Watch level json history)
 AsksBy met (Limits json) = (option_map (λ entered. entered.0) met ≡ Some (codes "limits")) × AsksLimits met (Limits json)
-AsksBy met (request.Batch batch) = (option_map (λ entered. entered.0) met ≡ Some (codes "batch")) × AsksBatch met batch
 AsksBy None (Check files) = ⊥
 AsksBy (Some entered) (Check files) = (entered.0 ≡ codes "check") × AsksFiles entered.1 files
 
@@ -289,7 +250,6 @@ GoesTogether (Explain options history certificate large slice quiet full) =
     × (full ≡ true → (quiet ≡ false) × (certificate ≡ None) × (slice ≡ None))
 GoesTogether (Survey level json large history) = Unit {0}
 GoesTogether (Watch level json history) = Unit {0}
-GoesTogether (request.Batch batch) = Unit {0}
 GoesTogether (Check files) = Unit {0}
 GoesTogether (Limits json) = Unit {0}
 

@@ -5,7 +5,7 @@ ghost use Rattle.clap.specs.Words.{FailsBy, IsUnsignedIn, app_of, fault_of, foun
 ghost use Rattle.clap.specs.declared.error.kind.ErrorKind.TheVariants.{OutOfMemory};
 ghost use Rattle.tcc_graph.specs.declared.level.Level.{Level};
 ghost use Rattle.tcc_base.specs.declared.workers.TheConstants.{MAX_WORKERS};
-ghost use Rattle.tcc_cli.specs.CommandLines.{Asks, AsksBatch, AsksBy, AsksExplain, AsksFiles, AsksLimits, AsksSurvey, AsksWatch, EndsUnasked, GoesTogether, IsAsked, IsFlag, IsInput, IsRequired, WasAsked, IsLevel, IsWorkers, PrintsHelp, SaysWorkers, batch_command, certificate_option, files_path, junit_option, many_text, check_command, explain_command, flag, flag_text, level_option, level_text, level_word, option_text, history_path, limits_command, require_option, required_text, slice_option, survey_command, watch_command, path, path_option, tcc_command, valued_option, workers_option, workers_text};
+ghost use Rattle.tcc_cli.specs.CommandLines.{Asks, AsksBy, AsksExplain, AsksFiles, AsksLimits, AsksSurvey, AsksWatch, EndsUnasked, GoesTogether, IsAsked, IsFlag, IsInput, IsRequired, WasAsked, IsLevel, IsWorkers, PrintsHelp, SaysWorkers, certificate_option, check_command, explain_command, flag, flag_text, level_option, level_text, level_word, option_text, history_path, limits_command, require_option, required_text, slice_option, survey_command, watch_command, path, path_option, tcc_command, valued_option, workers_option, workers_text};
 
 use crate::help;
 use clap::builder::ValueParser;
@@ -59,8 +59,6 @@ pub enum Request {
         /// The path of the records; without it they are those of the standard input.
         history: Option<String>,
     },
-    /// Answer for many histories, each by itself.
-    Batch(Batch),
     /// Judge a certificate for a history.
     Check(Files),
     /// Print the limits.
@@ -68,25 +66,6 @@ pub enum Request {
         /// Whether a line of JSON is wanted.
         json: bool,
     },
-}
-
-/// What a batch is asked for.
-#[derive(Drop)]
-pub struct Batch {
-    /// The level to judge at.
-    pub level: Level,
-    /// How many histories are judged at a time, at most.
-    pub workers: Workers,
-    /// Whether lines of JSON are wanted.
-    pub json: bool,
-    /// Whether only lines of failures are wanted.
-    pub failures: bool,
-    /// Whether records are taken up to the large limits.
-    pub large: bool,
-    /// The path of the file for a report in JUnit's form, if it is wanted.
-    pub junit: Option<String>,
-    /// The paths of histories and of folders with histories. For `-` these paths are read from the standard input.
-    pub files: Vec<String>,
 }
 
 /// The two files that a check is asked for.
@@ -324,60 +303,6 @@ fn watch_command<'a>(alloc: Global, levels: &'a [&'a str]) -> Result<Command<'a>
         .arg(history)
 }
 
-/// The option for the path of a report.
-fn junit_option<'a>(alloc: Global) -> Arg<'a>
-    ensures rule { rule_of result ≡ junit_option }
-    ensures own { result.global ≡ false }
-{
-    Arg::new(alloc, "junit")
-        .long("junit")
-        .value_name("PATH")
-        .help("Writes a report in JUnit's form to this file")
-}
-
-/// The paths of histories, at least one.
-fn files_path<'a>(alloc: Global) -> Arg<'a>
-    ensures rule { rule_of result ≡ files_path }
-    ensures own { result.global ≡ false }
-{
-    Arg::new(alloc, "files")
-        .value_name("FILE|FOLDER")
-        .help("A file of records, or a folder of such files; '-' takes names from standard input")
-        .required(true)
-        .action(ArgAction::Append)
-}
-
-/// What is added to the subcommand for many histories: how lines are wanted, where a report goes, and which files are read.
-fn with_lines<'a>(alloc: Global, batch: Command<'a>) -> Result<Command<'a>, AllocError>
-    ensures { IfOk result (λ made. app_of made ≡ with_rule (with_rule (with_rule (with_rule (app_of batch.entry) (flag (codes "json"))) (flag (codes "failures"))) junit_option) files_path) }
-{
-    let json = flag(alloc, "json", "Writes lines of JSON");
-    let failures = flag(
-        alloc,
-        "failures",
-        "Leaves out the lines of consistent histories, and counts these",
-    );
-    let junit = junit_option(alloc);
-    let files = files_path(alloc);
-    batch.arg(json)?.arg(failures)?.arg(junit)?.arg(files)
-}
-
-/// The subcommand for many histories, at one of these levels.
-fn batch_command<'a>(alloc: Global, levels: &'a [&'a str]) -> Result<Command<'a>, AllocError>
-    ensures { IfOk result (λ made. app_of made ≡ batch_command levels.entry) }
-{
-    let level = level_option(alloc, levels);
-    let workers = workers_option(alloc);
-    let large = large_flag(alloc);
-    let batch = Command::new(alloc, "batch")
-        .about("Reads the records of many histories and answers in a line for each")
-        .after_help(help::BATCH)
-        .arg(level)?
-        .arg(workers)?
-        .arg(large)?;
-    with_lines(alloc, batch)
-}
-
 /// The subcommand that prints the limits.
 fn limits_command<'a>(alloc: Global) -> Result<Command<'a>, AllocError>
     ensures { IfOk result (λ made. app_of made ≡ limits_command) }
@@ -396,7 +321,6 @@ fn command<'a>(alloc: Global, levels: &'a [&'a str]) -> Result<Command<'a>, Allo
     let explain = explain_command(alloc, levels)?;
     let survey = survey_command(alloc, levels)?;
     let watch = watch_command(alloc, levels)?;
-    let batch = batch_command(alloc, levels)?;
     let check = check_command(alloc)?;
     let limits = limits_command(alloc)?;
     let tcc = Command::new(alloc, "tcc")
@@ -407,8 +331,7 @@ fn command<'a>(alloc: Global, levels: &'a [&'a str]) -> Result<Command<'a>, Allo
         .subcommand(explain)?;
     let more = tcc.subcommand(survey)?;
     let most = more.subcommand(watch)?;
-    let all = most.subcommand(batch)?;
-    let checked = all.subcommand(check)?;
+    let checked = most.subcommand(check)?;
     checked.subcommand(limits)
 }
 
@@ -571,47 +494,6 @@ fn watch_of(alloc: Global, matches: &ArgMatches) -> Result<Request, Error>
     })
 }
 
-/// The words, as texts of their own.
-fn copied(alloc: Global, words: &[&str]) -> Result<Vec<String>, AllocError>
-    ensures { IfOk result (λ copied. map string_bytes copied.items ≡ map (λ word. word.now) words.now) }
-{
-    let mut copied = Vec::new(alloc);
-    for word in words {
-        copied.push(word.to_string(alloc)?)?;
-    }
-    Ok(copied)
-}
-
-/// The words that the subcommand has for an argument that may be given several times.
-fn words_for(alloc: Global, matches: &ArgMatches, id: &str) -> Result<Vec<String>, AllocError>
-    ensures { IfOk result (λ words. map string_bytes words.items ≡ many_text id.now (subcommand_rows_of matches.now)) }
-{
-    match matches.subcommand() {
-        Some((_name, batch)) => copied(alloc, batch.get_strs(id).unwrap_or(&[])),
-        None => Ok(Vec::new(alloc)),
-    }
-}
-
-/// What a batch is wanted to do, and where its histories are.
-fn batch_of(alloc: Global, matches: &ArgMatches) -> Result<Batch, Error>
-    ensures asked { IfOk result (AsksBatch (subcommand_rows_of matches.now)) }
-    ensures fails { IfErr result (λ e. kind_of e ≡ OutOfMemory) }
-{
-    let (Some(level), Some(workers)) = (level_of(matches), workers_of(matches)) else {
-        // Another word is a fault by clap, so only memory can be wanting.
-        return Err(Error::from(AllocError));
-    };
-    Ok(Batch {
-        level,
-        workers,
-        json: is_set(matches, "json"),
-        failures: is_set(matches, "failures"),
-        large: is_set(matches, "large"),
-        junit: path_for(alloc, matches, "junit")?,
-        files: words_for(alloc, matches, "files")?,
-    })
-}
-
 /// The two files to check, and within which limits.
 pub(crate) fn files_of(alloc: Global, matches: &ArgMatches) -> Result<Files, Error>
     ensures asked { IfOk result (AsksFiles (rows_of (found_of matches.now))) }
@@ -646,7 +528,6 @@ fn asked_of(alloc: Global, matches: &ArgMatches) -> Result<Request, Error>
         Some((name, check)) if name == "check" => Ok(Request::Check(files_of(alloc, check)?)),
         Some((name, _survey)) if name == "survey" => survey_of(alloc, matches),
         Some((name, _watch)) if name == "watch" => watch_of(alloc, matches),
-        Some((name, _batch)) if name == "batch" => Ok(Request::Batch(batch_of(alloc, matches)?)),
         Some((name, _limits)) if name == "limits" => Ok(limits_of(matches)),
         _ => options_of(alloc, matches),
     }

@@ -109,36 +109,6 @@ Statuses, of the last answer or of the fault that ended the run:
 
 'man tcc' says how to read an answer, docs/FORMATS.md of the sources has every text and every limit.";
 
-/// The files, an example, and the statuses of a batch.
-pub const BATCH: &str =
-    "Each file has the records of one history, as 'tcc explain' reads them. A folder stands for the files in it, by
-name, without those whose names begin with '.', and without folders. '-' stands for the names that standard
-input has, one a line. Histories are judged side by side, '--workers' at a time. Each has one line, in the order
-in which they are named: its name, and the first line that 'tcc explain --quiet' prints for it. Where its
-records have a 'seal', that is the first line of the last answer.
-
-With '--failures' histories with status 0 have no line, and the last line says how many these are. '--junit PATH'
-writes a report with a test case for each history: an anomaly is a failure, any other status an error.
-
-Example: two histories, of which the second one reads the initial x after its own write.
-  $ printf 'a,begin\na,w,x,1\na,commit\n' > one.csv
-  $ printf 'a,begin\na,w,x,1\na,commit\na,begin\na,r,x,0\na,commit\n' > two.csv
-  $ tcc batch one.csv two.csv
-  one.csv: consistent: 1 transactions, 1 sessions
-  two.csv: anomaly: 3 steps, stale-initial-read
-
-Status: the greatest that one of the histories has by itself:
-  0   all are consistent
-  1   an anomaly: no order explains the reads, and no cycle has fewer steps
-  2   unresolved: reads that can't be traced to a write, or values written twice
-  3   a record breaks a rule, or the input ends inside a transaction
-  4   the records are past a limit
-  5   out of memory
-  6   reading or writing failed, there are too many bytes, or a file can't be opened or made
-  64  the command line is wrong
-
-'man tcc' says how to read an answer, docs/FORMATS.md of the sources has every text and every limit.";
-
 /// What the limits are of, and the statuses of their printing.
 pub const LIMITS: &str = "Counted is all that an input has, aborted transactions too.
 

@@ -20,7 +20,7 @@ mod terminal;
 
 pub use checker::{read_check, read_check_words};
 pub use checking::{check_files, check_opened, open_both};
-pub use command_line::{Batch, Files, Request, read, read_words};
+pub use command_line::{Files, Request, read, read_words};
 pub use ending::exit_code;
 pub use files::{open_input, open_output, open_outputs, print_unopened};
 pub use help::VERSION;
@@ -29,4 +29,4 @@ pub use limits::print_limits;
 pub use opening::OutputFile;
 pub use quiet::Quiet;
 pub use reporting::ErrorReporter;
-pub use terminal::{are_errors_shown, are_waited_for, is_waited_for, size_of};
+pub use terminal::{are_waited_for, is_waited_for, size_of};

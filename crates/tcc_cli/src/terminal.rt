@@ -47,11 +47,6 @@ pub fn are_waited_for(rt: &HostRuntime, one: &File, other: &File) -> bool {
     is_terminal(fs::metadata(rt, ERRORS)) && !typed
 }
 
-/// Whether the standard error is a terminal.
-pub fn are_errors_shown(rt: &HostRuntime) -> bool {
-    is_terminal(fs::metadata(rt, ERRORS))
-}
-
 /// How many bytes a file has, by what the system says of it; 0 where it doesn't tell.
 fn told_size(told: io::Result<Metadata>) -> u64
     ensures { MatchResult told (λ metadata. result ≡ metadata_len metadata) (λ _. result ≡ 0) }

@@ -3,7 +3,7 @@ use Rattle.std.proofs.Common.{◌≡◌, ◌∙◌, ap, ap₂, rules, codes}
 use Rattle.std.proofs.lemmas.Result.{IfOk-weaker}
 use Rattle.clap.specs.Words.{App, app_of, new_app, with_subcommand}
 use Rattle.clap.specs.Simple.{on_top}
-use Rattle.tcc_cli.specs.CommandLines.{batch_command, check_command, explain_command, survey_command, watch_command, with_subcommand_required, with_version}
+use Rattle.tcc_cli.specs.CommandLines.{check_command, explain_command, survey_command, watch_command, with_subcommand_required, with_version}
 use Rattle.tcc_cli.proofs.PlainCommands.{no_globals}
 use Rattle.tcc_cli.proofs.command_line.command.Goals as goal
 
@@ -23,17 +23,12 @@ returns c =
     (watch_command c.args.levels).top
     = c.in_ok-most.ensures.shape (no_globals _ _ _ _ (ap (λ (a : App). a.top.is_plain) c.in_ok-watch.ensures))
     ∙ ap₂ with_subcommand more_is (ap (λ (a : App). a.top) c.in_ok-watch.ensures) in
-    let all_is : app_of c.in_ok-all.all ≡ with_subcommand (with_subcommand (with_subcommand (with_subcommand
+    let checked_is : app_of c.in_ok-checked.checked ≡ with_subcommand (with_subcommand (with_subcommand (with_subcommand
     (on_top with_subcommand_required (on_top with_version (new_app (codes "tcc")))) (explain_command c.args.levels).top) (survey_command c.args.levels).top)
-    (watch_command c.args.levels).top) (batch_command c.args.levels).top
-    = c.in_ok-all.ensures.shape (no_globals _ _ _ _ (ap (λ (a : App). a.top.is_plain) c.in_ok-batch.ensures))
-    ∙ ap₂ with_subcommand most_is (ap (λ (a : App). a.top) c.in_ok-batch.ensures) in
-    let checked_is : app_of c.in_ok-checked.checked ≡ with_subcommand (with_subcommand (with_subcommand (with_subcommand (with_subcommand
-    (on_top with_subcommand_required (on_top with_version (new_app (codes "tcc")))) (explain_command c.args.levels).top) (survey_command c.args.levels).top)
-    (watch_command c.args.levels).top) (batch_command c.args.levels).top) check_command.top
+    (watch_command c.args.levels).top) check_command.top
     = c.in_ok-checked.ensures.shape (no_globals _ _ _ _ (ap (λ (a : App). a.top.is_plain) c.in_ok-check.ensures))
-    ∙ ap₂ with_subcommand all_is (ap (λ (a : App). a.top) c.in_ok-check.ensures) in
-    IfOk-weaker c.subcommand-6.result _ _
+    ∙ ap₂ with_subcommand most_is (ap (λ (a : App). a.top) c.in_ok-check.ensures) in
+    IfOk-weaker c.subcommand-5.result _ _
     (λ made adds. adds.shape (no_globals _ _ _ _ (ap (λ (a : App). a.top.is_plain) c.in_ok-limits.ensures))
     ∙ ap₂ with_subcommand checked_is (ap (λ (a : App). a.top) c.in_ok-limits.ensures))
-    c.subcommand-6.ensures
+    c.subcommand-5.ensures
