@@ -3,6 +3,8 @@
 //!
 //! Needs: the runs that answer for one history (`tcc_run`, `tcc_watch_run`).
 //! Must hold: each line is one that a run of `explain` writes for the same bytes, whatever the number of workers is.
+//! Kept for callers: `Finding::unopened`, `Report::is_anomaly`, `Report::is_consistent`, `Report::is_unjudged`, `judge`, `judge_each`,
+//! `junit_text`, `print_lines`, `print_summary`, `worst_code`.
 #![tactic(auto)]
 
 mod finding;

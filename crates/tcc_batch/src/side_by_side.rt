@@ -23,7 +23,7 @@ fn judge_one<R: Read + Drop>(
     }
 }
 
-/// Judges the histories whose records weren't read yet, by at most so many workers, each in the same way whatever their number is.
+/// Judges the histories whose records weren't read yet, by at most `workers` threads, each in the same way whatever their number is.
 pub fn judge_each<R: Read + Drop + Send>(
     rt: &(impl Threads + Sync),
     alloc: Global,

@@ -6,7 +6,7 @@
 //!
 //! Needs: searches of one start (`tcc_core`) and the bound that they share (`tcc_bound`).
 //! Must hold: each start is searched once; the cost is the same for every schedule and number of workers.
-//! Kept for callers: `World::seeded`.
+//! Kept for callers: `World::run`, `World::seeded`.
 #![tactic(auto)]
 
 mod bounded_search;
