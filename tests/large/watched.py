@@ -205,15 +205,14 @@ def surveyed(words):
 
 
 def sliced(words):
-    """What is wrong where there are many records to cut a slice from, or None: that this is shown. The records are within the small
-    limits, and a million of their operations are of no use to the anomaly. An answer with the tables of a certificate has no graph: so
-    for the slice they are all resolved once more."""
+    """What is wrong where there are many records to cut a slice from, or None. The records are within the small limits, and a million of
+    their operations are of no use to the anomaly. The slice is cut by the graph that is there, so that may be too short to be shown."""
     with tempfile.TemporaryDirectory() as made:
         history, certificate, piece = (pathlib.Path(made) / name for name in ("history", "certificate", "piece"))
         history.write_bytes((b"b,begin\n" + 256 * b"b,r,k,0\n" + b"b,commit\n") * 4000 + STALE)
         text, status = held_up([*words, "--certificate", certificate, "--slice", piece, history])
         kept = piece.read_bytes()
-    if status != 1 or "cutting a slice" not in stages_in(text):
+    if status != 1 or "deciding" not in stages_in(text):
         return "status %d, shown %s" % (status, shown(text))
     return first_difference("screen", STALE_READ, screen_after(text)) or first_difference("slice", STALE, kept)
 
@@ -370,7 +369,7 @@ def outcomes(tcc):
     yield "a long run of typed records", typed(words, ONE, CONSISTENT)
     yield "a long run of records typed as a file", typed([*words, TYPED], ONE, CONSISTENT)
     yield "a long decision", decided(words)
-    yield "a long cutting of a slice", sliced(words)
+    yield "a slice of many records", sliced(words)
     yield "a seal of a long quiet run", wrong_with([*words, "--quiet"], [ONE, b"seal\n", b""], 0, COUNTED, reading)
     watch = [tcc, "watch"]
     yield "a seal of a long watch", wrong_with(watch, [ONE, b"seal\n", b""], 0, COUNTED, reading)
