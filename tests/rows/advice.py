@@ -1,5 +1,5 @@
 #!/usr/bin/env python3
-"""What `tcc explain` says to do with a folder, a history in EDN and a compressed one: the last line of standard error.
+"""What `tcc explain` says to do with a folder, a history in EDN and a compressed one, on standard error.
 
     advice.py [--tcc PATH]
 
@@ -35,7 +35,8 @@ def outcomes(tcc: List[str]) -> Iterator[Outcome]:
                 path.write_bytes(text)
             ran = subprocess.run([*tcc, "explain", name], cwd=made, capture_output=True, timeout=120, check=False)
             wanted = [] if advice is None else ["%s: %s" % (name, advice)]
-            last = ran.stderr.decode("utf-8", "replace").splitlines()[-1:]
+            # (after all else comes the word for a file that fails)
+            last = [line for line in ran.stderr.decode("utf-8", "replace").splitlines() if line != "device"][-1:]
             yield name, None if (ran.returncode, last) == (status, wanted) else "status %d, %r" % (ran.returncode, ran.stderr)
 
 
