@@ -31,7 +31,7 @@ module _ (rest : List ℕ) where
   in_hidden [] is = refl
   in_hidden (x ∷ xs) is = ap (λ line. shown line (xs ++ 10 ∷ rest)) (goes LeftOut x (first x xs is)) ∙ in_hidden xs (rest_of x xs is)
 
-  -- what is shown of a line, after so many bytes of the begin, where this is left of that
+  -- what is shown of a line, after n bytes of the begin, where this is left of that
   abbrev of_line : ℕ → List ℕ → List ℕ → List ℕ
   of_line held left line = cond (begins left line) [] (take held order_start ++ (line ++ 10 ∷ [])) ++ shown (Begun 0) rest
 

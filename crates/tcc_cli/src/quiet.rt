@@ -31,7 +31,7 @@ pub struct Quiet<W> {
     line: LineState,
 }
 
-/// Whether a line that begins with so many bytes of `ORDER` still does with this byte.
+/// Whether a line that begins with the first `held` bytes of `ORDER` still does with this byte.
 fn goes_on(held: usize, byte: u8) -> bool
     ensures { result ≡ goes_on held byte }
 {
