@@ -10,9 +10,9 @@ _tcc() {
     fi
     COMPREPLY=()
     if [ "$COMP_CWORD" -eq 1 ]; then
-        COMPREPLY=($(compgen -W 'explain survey watch check limits help --help --version' -- "$word"))
+        COMPREPLY=($(compgen -W 'explain survey watch check limits serve help --help --version' -- "$word"))
     elif [ "$command" = help ]; then
-        COMPREPLY=($(compgen -W 'explain survey watch check limits' -- "$word"))
+        COMPREPLY=($(compgen -W 'explain survey watch check limits serve' -- "$word"))
     elif [ "$command" = explain ]; then
         case $before in
             --level) COMPREPLY=($(compgen -W 'causal atomic' -- "$word")) ;;
@@ -34,6 +34,8 @@ _tcc() {
         COMPREPLY=($(compgen -W '--large --help' -- "$word"))
     elif [ "$command" = limits ] && [[ $word == -* ]]; then
         COMPREPLY=($(compgen -W '--json --help' -- "$word"))
+    elif [ "$command" = serve ] && [[ $word == -* ]]; then
+        COMPREPLY=($(compgen -W '--help' -- "$word"))
     fi
 }
 

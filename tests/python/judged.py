@@ -23,8 +23,9 @@ while True:
     head = sys.stdin.buffer.readline()
     if not head:
         sys.exit(0)
-    records, certificate, verb, *options = head.decode().split()
-    text = sys.stdin.buffer.read(int(records) + int(certificate))[:int(records)]
+    lengths, verb, *options = head.decode().split()
+    records, _, certificate = lengths.partition("+")
+    text = sys.stdin.buffer.read(int(records) + int(certificate or 0))[:int(records)]
     if b",dies," in text:
         sys.stdout.buffer.write(b"0 50 0 0 0\\nconsis")
         sys.exit(7)

@@ -1,7 +1,9 @@
 //! `tcc explain` reads the records of a history, says whether it is consistent at a level, and gives a certificate of
 //! that; `tcc check` judges one; `tcc survey` lists the contradicted reads of a history. `tcc watch` answers while records come.
+//! `tcc serve` replies to requests.
 #![tactic(auto)]
 
+mod serve;
 mod watch;
 mod watched;
 
@@ -392,6 +394,7 @@ fn main(rt: HostRuntime) -> ExitCode {
             }
         }
         Ok(Request::Limits { json }) => print_limits(rt.alloc(), json, &mut out),
+        Ok(Request::Serve) => serve::serve(&rt, &rt, &mut out),
         Err(code) => code,
     };
     exit_code(&rt, code)

@@ -163,6 +163,13 @@ limits_read : (faults (codes "limits" ∷ []) ≡ []) × (limits_asks [] ≡ (So
 unfolding clap_on_literals
 limits_read = (refl, refl, refl, refl)
 
+-- ---- serve
+
+serve_read : (faults (codes "serve" ∷ []) ≡ [])
+    × (option_map (λ entered. entered.0) (subcommand_of program (codes "tcc" ∷ codes "serve" ∷ [])) ≡ Some (codes "serve"))
+unfolding clap_on_literals
+serve_read = (refl, refl)
+
 -- ---- check, of whichever program
 
 abbrev check_line : List Text
@@ -237,6 +244,8 @@ faulty_lines =
     -- the limits are of no file, and are printed whole
     ∷ (codes "limits" ∷ codes "x" ∷ [], UnknownArgument ∷ [])
     ∷ (codes "limits" ∷ codes "--large" ∷ [], UnknownArgument ∷ [])
+    -- requests come from the standard input alone
+    ∷ (codes "serve" ∷ codes "x" ∷ [], UnknownArgument ∷ [])
     -- the workers are a number from 1 to 32
     ∷ (codes "explain" ∷ codes "--workers" ∷ codes "0" ∷ [], ValueValidation ∷ [])
     ∷ (codes "explain" ∷ codes "--workers=33" ∷ [], ValueValidation ∷ [])

@@ -17,7 +17,7 @@ use Rattle.clap.specs.declared.error.kind.ErrorKind.{ErrorKind}
 use Rattle.clap.specs.declared.error.kind.ErrorKind.TheVariants.{ArgumentConflict, DisplayHelp, DisplayVersion, OutOfMemory}
 use Rattle.tcc_cli.specs.declared.command_line.Files.{Files}
 use Rattle.tcc_cli.specs.declared.command_line.Request.{Request}
-use Rattle.tcc_cli.specs.declared.command_line.Request.TheVariants.{Explain, Survey, Watch, Check, Limits}
+use Rattle.tcc_cli.specs.declared.command_line.Request.TheVariants.{Explain, Survey, Watch, Check, Limits, Serve}
 use Rattle.tcc_graph.specs.declared.level.Level.{Level}
 use Rattle.tcc_graph.specs.declared.level.Level.TheVariants.{Causal, Atomic}
 use Rattle.tcc_print.specs.declared.status.Status.TheVariants.{Success, Memory, Usage}
@@ -110,12 +110,17 @@ check_command =
 abbrev pub limits_command : App
 limits_command = with_rule (new_app (codes "limits")) (flag (codes "json"))
 
+-- serve
+abbrev pub serve_command : App
+serve_command = new_app (codes "serve")
+
 -- tcc with one of these subcommands, which has to be given; the program has a name and a version
 abbrev pub tcc_command : Words → App
 tcc_command levels =
     let named : App = on_top with_subcommand_required (on_top with_version (new_app (codes "tcc"))) in
     let asked : App = with_subcommand (with_subcommand named (explain_command levels).top) (survey_command levels).top in
-    with_subcommand (with_subcommand (with_subcommand asked (watch_command levels).top) check_command.top) limits_command.top
+    let checked : App = with_subcommand (with_subcommand asked (watch_command levels).top) check_command.top in
+    with_subcommand (with_subcommand checked limits_command.top) serve_command.top
 
 -- what clap reads of a flag in the matches of a subcommand that was met
 abbrev pub flag_text : Text → Option (Text × List Row) → Option Text
@@ -192,6 +197,7 @@ AsksExplain met (Survey level json large history) = ⊥
 AsksExplain met (Watch level json history) = ⊥
 AsksExplain met (Check files) = ⊥
 AsksExplain met (Limits json) = ⊥
+AsksExplain met Serve = ⊥
 
 -- the list is in lines of JSON and within the large limits by the flags, at the level of the word; the records are those of the file
 abbrev pub AsksSurvey : Option (Text × List Row) → Request → Type 0
@@ -202,6 +208,7 @@ AsksSurvey met (Explain options history certificate large slice quiet full) = �
 AsksSurvey met (Watch level json history) = ⊥
 AsksSurvey met (Check files) = ⊥
 AsksSurvey met (Limits json) = ⊥
+AsksSurvey met Serve = ⊥
 
 -- each answer is a line of JSON by the flag, at the level of the word; the records are those of the file
 abbrev pub AsksWatch : Option (Text × List Row) → Request → Type 0
@@ -211,6 +218,7 @@ AsksWatch met (Explain options history certificate large slice quiet full) = ⊥
 AsksWatch met (Survey level json large history) = ⊥
 AsksWatch met (Check files) = ⊥
 AsksWatch met (Limits json) = ⊥
+AsksWatch met Serve = ⊥
 
 -- the limits are a line of JSON by the flag
 abbrev pub AsksLimits : Option (Text × List Row) → Request → Type 0
@@ -219,6 +227,7 @@ AsksLimits met (Explain options history certificate large slice quiet full) = �
 AsksLimits met (Survey level json large history) = ⊥
 AsksLimits met (Watch level json history) = ⊥
 AsksLimits met (Check files) = ⊥
+AsksLimits met Serve = ⊥
 
 -- the paths are those that clap finds, and it is within the large limits by the flag
 abbrev pub AsksFiles : List Row → Files → Type 0
@@ -226,17 +235,19 @@ AsksFiles rows files =
     (first_of (codes "history") rows ≡ Some (string_bytes files.history)) × (first_of (codes "certificate") rows ≡ Some (string_bytes files.certificate))
     × IsFlag (one_of (codes "large") rows) files.large
 
--- what the subcommand that was met asks for: a check by its name with its two paths; a survey, a watch or the limits by its name; else
--- answers
+-- what the subcommand that was met asks for: a check by its name with its two paths; a survey, a watch, the limits or replies to requests
+-- by its name; else answers
 abbrev pub AsksBy : Option (Text × List Row) → Request → Type 0
 AsksBy met (Explain options history certificate large slice quiet full) =
     (option_map (λ entered. entered.0) met ≢ Some (codes "check")) × (option_map (λ entered. entered.0) met ≢ Some (codes "survey"))
     × (option_map (λ entered. entered.0) met ≢ Some (codes "watch")) × (option_map (λ entered. entered.0) met ≢ Some (codes "limits"))
+    × (option_map (λ entered. entered.0) met ≢ Some (codes "serve"))
     × AsksExplain met (Explain options history certificate large slice quiet full)
 AsksBy met (Survey level json large history) =
     (option_map (λ entered. entered.0) met ≡ Some (codes "survey")) × AsksSurvey met (Survey level json large history)
 AsksBy met (Watch level json history) = (option_map (λ entered. entered.0) met ≡ Some (codes "watch")) × AsksWatch met (Watch level json history)
 AsksBy met (Limits json) = (option_map (λ entered. entered.0) met ≡ Some (codes "limits")) × AsksLimits met (Limits json)
+AsksBy met Serve = option_map (λ entered. entered.0) met ≡ Some (codes "serve")
 AsksBy None (Check files) = ⊥
 AsksBy (Some entered) (Check files) = (entered.0 ≡ codes "check") × AsksFiles entered.1 files
 
@@ -252,6 +263,7 @@ GoesTogether (Survey level json large history) = Unit {0}
 GoesTogether (Watch level json history) = Unit {0}
 GoesTogether (Check files) = Unit {0}
 GoesTogether (Limits json) = Unit {0}
+GoesTogether Serve = Unit {0}
 
 -- a text, or the line `memory` in its place, is written with its status
 abbrev pub PrintsHelp : Option (List ℕ) → Option (List ℕ) → ℕ → Type 0

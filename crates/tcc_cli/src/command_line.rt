@@ -5,7 +5,7 @@ ghost use Rattle.clap.specs.Words.{FailsBy, IsUnsignedIn, app_of, fault_of, foun
 ghost use Rattle.clap.specs.declared.error.kind.ErrorKind.TheVariants.{OutOfMemory};
 ghost use Rattle.tcc_graph.specs.declared.level.Level.{Level};
 ghost use Rattle.tcc_base.specs.declared.workers.TheConstants.{MAX_WORKERS};
-ghost use Rattle.tcc_cli.specs.CommandLines.{Asks, AsksBy, AsksExplain, AsksFiles, AsksLimits, AsksSurvey, AsksWatch, EndsUnasked, GoesTogether, IsAsked, IsFlag, IsInput, IsRequired, WasAsked, IsLevel, IsWorkers, PrintsHelp, SaysWorkers, certificate_option, check_command, explain_command, flag, flag_text, level_option, level_text, level_word, option_text, history_path, limits_command, require_option, required_text, slice_option, survey_command, watch_command, path, path_option, tcc_command, valued_option, workers_option, workers_text};
+ghost use Rattle.tcc_cli.specs.CommandLines.{Asks, AsksBy, AsksExplain, AsksFiles, AsksLimits, AsksSurvey, AsksWatch, EndsUnasked, GoesTogether, IsAsked, IsFlag, IsInput, IsRequired, WasAsked, IsLevel, IsWorkers, PrintsHelp, SaysWorkers, certificate_option, check_command, explain_command, flag, flag_text, level_option, level_text, level_word, option_text, history_path, limits_command, require_option, required_text, serve_command, slice_option, survey_command, watch_command, path, path_option, tcc_command, valued_option, workers_option, workers_text};
 
 use crate::help;
 use clap::builder::ValueParser;
@@ -66,6 +66,8 @@ pub enum Request {
         /// Whether a line of JSON is wanted.
         json: bool,
     },
+    /// Reply to the requests of the standard input.
+    Serve,
 }
 
 /// The two files that a check is asked for.
@@ -314,6 +316,15 @@ fn limits_command<'a>(alloc: Global) -> Result<Command<'a>, AllocError>
         .arg(json)
 }
 
+/// The subcommand for requests, which has no arguments.
+fn serve_command<'a>(alloc: Global) -> Command<'a>
+    ensures { app_of result ≡ serve_command }
+{
+    Command::new(alloc, "serve")
+        .about("Replies to requests on the standard input, one after the other")
+        .after_help(help::SERVE)
+}
+
 /// The command by which words are read, with these words for levels.
 fn command<'a>(alloc: Global, levels: &'a [&'a str]) -> Result<Command<'a>, AllocError>
     ensures { IfOk result (λ made. app_of made ≡ tcc_command levels.entry) }
@@ -332,7 +343,8 @@ fn command<'a>(alloc: Global, levels: &'a [&'a str]) -> Result<Command<'a>, Allo
     let more = tcc.subcommand(survey)?;
     let most = more.subcommand(watch)?;
     let checked = most.subcommand(check)?;
-    checked.subcommand(limits)
+    let printed = checked.subcommand(limits)?;
+    printed.subcommand(serve_command(alloc))
 }
 
 /// Whether a flag of the subcommand is set.
@@ -529,6 +541,7 @@ fn asked_of(alloc: Global, matches: &ArgMatches) -> Result<Request, Error>
         Some((name, _survey)) if name == "survey" => survey_of(alloc, matches),
         Some((name, _watch)) if name == "watch" => watch_of(alloc, matches),
         Some((name, _limits)) if name == "limits" => Ok(limits_of(matches)),
+        Some((name, _serve)) if name == "serve" => Ok(Request::Serve),
         _ => options_of(alloc, matches),
     }
 }

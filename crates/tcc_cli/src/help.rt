@@ -5,8 +5,8 @@ pub const VERSION: &str = "0.1.0";
 
 /// Where the help on each command is.
 pub const COMMANDS: &str =
-    "'tcc explain --help', 'tcc survey --help', 'tcc watch --help' and 'tcc check --help' show what is read, an
-example and the statuses; 'tcc limits' prints how much may be read.
+    "'tcc explain --help', 'tcc survey --help', 'tcc watch --help', 'tcc check --help' and 'tcc serve --help' show
+what is read, an example and the statuses; 'tcc limits' prints how much may be read.
 'man tcc' says how to read an answer, README.md of the sources also how to record a history.";
 
 /// Where the help on the checker's command is.
@@ -124,6 +124,34 @@ Statuses:
   5   out of memory
   6   writing failed
   64  the command line is wrong";
+
+/// The requests, the replies and the statuses of a resident program.
+pub const SERVE: &str = "A request is a line, and after it as many bytes as the line says. The line has the length of the records, a
+question and options, each after one space:
+  LENGTH explain [--level=LEVEL] [--json] [--certificate] [--large [--slice]]
+  LENGTH survey [--level=LEVEL] [--json] [--large]
+  LENGTH+LENGTH check [--large]
+The bytes are the records, and for a check after them the certificate. A run is that of 'tcc explain', 'tcc survey' or
+'tcc check' with these options.
+
+A reply is a line with five numbers: the status of the run, and how long its answer, certificate, slice and notes are. These
+texts come after it. A request is refused with the status 64 and the answer 'refused: unknown', 'refused: too long' (more than
+1073741824 bytes) or 'refused: cut' (the input ended before its last byte). Where memory is out the status is 5 and the answer
+'memory'. The next request is answered all the same. After 'refused: header', where a line has no length, the program ends.
+
+Example: the records 'a,begin', 'a,w,x,1' and 'a,commit'.
+  $ printf '25 explain\na,begin\na,w,x,1\na,commit\n' | tcc serve
+  0 55 0 0 0
+  consistent: 1 transactions, 1 sessions
+  order: init a/1
+
+Statuses:
+  0   the input ended, and each request has a reply
+  5   out of memory before the first request
+  6   reading or writing failed
+  64  a line has no length, or the command line is wrong
+
+docs/FORMATS.md of the sources has every text.";
 
 /// The files, an example, and the statuses of a checked certificate.
 pub const CHECK: &str =

@@ -1,6 +1,6 @@
 """Requests to the program about records in memory: each is a run of its own, or a request of `tcc serve`, which stays.
 
-The program of today has no `tcc serve` yet, so each question is a run. A run costs a process, a request of a program that stays two writes to its pipe.
+A run costs a process, a request of a program that stays two writes to its pipe. A program without `tcc serve` is run for each.
 """
 import abc
 import os
@@ -38,8 +38,8 @@ class Request:
     def head(self) -> bytes:
         """The line of the request."""
         wanted = [*(["--certificate"] if self.wants_certificate else []), *(["--slice"] if self.wants_slice else [])]
-        words = [str(len(self.records)), str(len(self.certificate)), self.verb, *self.options(), *wanted]
-        return " ".join(words).encode() + b"\n"
+        lengths = "%d+%d" % (len(self.records), len(self.certificate)) if self.verb == "check" else str(len(self.records))
+        return " ".join([lengths, self.verb, *self.options(), *wanted]).encode() + b"\n"
 
 
 @dataclass(frozen=True)

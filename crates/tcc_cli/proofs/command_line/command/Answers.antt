@@ -3,7 +3,7 @@ use Rattle.std.proofs.Common.{◌≡◌, ◌∙◌, ap, ap₂, rules, codes}
 use Rattle.std.proofs.lemmas.Result.{IfOk-weaker}
 use Rattle.clap.specs.Words.{App, app_of, new_app, with_subcommand}
 use Rattle.clap.specs.Simple.{on_top}
-use Rattle.tcc_cli.specs.CommandLines.{check_command, explain_command, survey_command, watch_command, with_subcommand_required, with_version}
+use Rattle.tcc_cli.specs.CommandLines.{check_command, explain_command, limits_command, survey_command, watch_command, with_subcommand_required, with_version}
 use Rattle.tcc_cli.proofs.PlainCommands.{no_globals}
 use Rattle.tcc_cli.proofs.command_line.command.Goals as goal
 
@@ -28,7 +28,12 @@ returns c =
     (watch_command c.args.levels).top) check_command.top
     = c.in_ok-checked.ensures.shape (no_globals _ _ _ _ (ap (λ (a : App). a.top.is_plain) c.in_ok-check.ensures))
     ∙ ap₂ with_subcommand most_is (ap (λ (a : App). a.top) c.in_ok-check.ensures) in
-    IfOk-weaker c.subcommand-5.result _ _
-    (λ made adds. adds.shape (no_globals _ _ _ _ (ap (λ (a : App). a.top.is_plain) c.in_ok-limits.ensures))
-    ∙ ap₂ with_subcommand checked_is (ap (λ (a : App). a.top) c.in_ok-limits.ensures))
-    c.subcommand-5.ensures
+    let printed_is : app_of c.in_ok-printed.printed ≡ with_subcommand (with_subcommand (with_subcommand (with_subcommand (with_subcommand
+    (on_top with_subcommand_required (on_top with_version (new_app (codes "tcc")))) (explain_command c.args.levels).top) (survey_command c.args.levels).top)
+    (watch_command c.args.levels).top) check_command.top) limits_command.top
+    = c.in_ok-printed.ensures.shape (no_globals _ _ _ _ (ap (λ (a : App). a.top.is_plain) c.in_ok-limits.ensures))
+    ∙ ap₂ with_subcommand checked_is (ap (λ (a : App). a.top) c.in_ok-limits.ensures) in
+    IfOk-weaker c.subcommand-6.result _ _
+    (λ made adds. adds.shape (no_globals _ _ _ _ (ap (λ (a : App). a.top.is_plain) c.serve_command.ensures))
+    ∙ ap₂ with_subcommand printed_is (ap (λ (a : App). a.top) c.serve_command.ensures))
+    c.subcommand-6.ensures

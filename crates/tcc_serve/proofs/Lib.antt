@@ -1,0 +1,2 @@
+mod EmptyFiles
+mod Turns

@@ -1,0 +1,2 @@
+-- Definitions that no reader has to trust: only private functions and proofs use them.
+pub mod Turns
