@@ -4,4 +4,5 @@ pub mod Links
 pub mod Objects
 pub mod FullAnswer
 pub mod Runs
+pub mod Notes
 pub mod private

@@ -1,5 +1,5 @@
 -- What a run does with the bytes of records.
-use Rattle.std.specs.Prelude.{ℕ, ◌≡◌, ◌⊎◌, List, take, Option, None, Err, true, codes}
+use Rattle.std.specs.Prelude.{ℕ, ◌≡◌, ◌≢◌, ◌⊎◌, List, take, Option, None, Err, true, codes}
 use Rattle.tcc_txn.specs.Limits.{most_bytes}
 use Rattle.tcc_txn.specs.Snapshots.{Sessions}
 use Rattle.tcc_txn.specs.declared.limits.Limits.{Limits}
@@ -7,6 +7,7 @@ use Rattle.tcc_rows.specs.Answers.{answers_within}
 use Rattle.tcc_rows.specs.Items.{finished_in}
 use Rattle.tcc_rows.specs.Recordings.{IsRecorded}
 use Rattle.tcc_rows.specs.declared.fault.RowFault.{RowFault}
+use Rattle.tcc_rows.specs.declared.fault.RowFaultKind.TheVariants as row_kind
 use Rattle.tcc_answer.specs.Json.{json_line}
 use Rattle.tcc_print.specs.Json.{row_fault_json}
 use Rattle.tcc_print.specs.Printed.{Prints, memory_line}
@@ -40,10 +41,11 @@ TellsAll asked required bytes before after code =
     × ((found : FoundAnswer) × IsFound asked.level (finished asked.limits bytes) found
     × TellsFound asked required (within asked.limits bytes) (finished asked.limits bytes) found before after code)
 
--- the fault of the records is written, or that of a reader that failed after lawful ones
+-- the fault of the records is written, or that of a reader that failed after lawful ones; refused memory is none of them
 abbrev pub TellsFault : ReportOptions → RowFault → Option (List ℕ) → Option (List ℕ) → ℕ → Type 0
 TellsFault asked fault before after code =
-    Prints before after (json_line (none_json asked (row_fault_json fault) (row_status fault.kind))) (row_status fault.kind) code
+    (fault.kind ≢ row_kind.NoMemory)
+    × Prints before after (json_line (none_json asked (row_fault_json fault) (row_status fault.kind))) (row_status fault.kind) code
 
 abbrev pub Stops : ReportOptions → List ℕ → Option (List ℕ) → Option (List ℕ) → ℕ → Type 0
 Stops asked bytes before after code =

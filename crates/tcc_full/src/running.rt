@@ -1,7 +1,8 @@
 //! From the bytes of records to all that is reported of their answer.
 ghost use Rattle.std.specs.Prelude.{◌≡◌, ◌++◌, ℕ, Err, IfSome, MatchResult, Ok};
-ghost use Rattle.tcc_rows.specs.Recordings.{IsRecorded};
-ghost use Rattle.tcc_full.specs.{Runs.IsFullRun, private.Notes.AreNotesOf};
+ghost use Rattle.tcc_rows.specs.{Answers.records_within, Reached.record_at, Recordings.IsRecorded};
+ghost use Rattle.tcc_verdict.specs.Stopping.{NotesStop};
+ghost use Rattle.tcc_full.specs.{Notes.AreNotesOf, Notes.IsNotedFull, Runs.IsFullRun};
 
 use crate::finding::{FoundAnswer, find};
 use crate::objects::ReportOptions;
@@ -55,7 +56,7 @@ fn answer_checkpoint<T: Threads + Sync, G: Gate, B: AnsweredBounds, W: Write, N:
     notes: &mut N,
 ) -> u8
     ensures { IsRecorded asked.now.limits text.now (Ok snapshot.now)
-        → IsFullRun asked.now run.now.options.now.required text.now (W.contents out.old) (W.contents out.new) result }
+        → IsNotedFull asked.now run.now.options.now.required text.now (N.contents notes.old) (N.contents notes.new) (W.contents out.old) (W.contents out.new) result }
 {
     let text = within(text, asked.limits);
     match find(run, snapshot, asked.level) {
@@ -77,8 +78,9 @@ fn run_lawful<T: Threads + Sync, G: Gate, W: Write, N: Write>(
     notes: &mut N,
 ) -> Result<u8, RowFault>
     ensures { MatchResult result
-        (λ code. IsFullRun asked.now run.now.options.now.required text.now (W.contents out.old) (W.contents out.new) code)
-        (λ fault. IsRecorded asked.now.limits text.now (Err fault) × (W.contents out.new ≡ W.contents out.old)) }
+        (λ code. IsNotedFull asked.now run.now.options.now.required text.now (N.contents notes.old) (N.contents notes.new) (W.contents out.old) (W.contents out.new) code)
+        (λ fault. IsRecorded asked.now.limits text.now (Err fault) × (W.contents out.new ≡ W.contents out.old)
+        × NotesStop asked.now.limits fault (record_at fault.row (records_within asked.now.limits text.now)) (N.contents notes.old) (N.contents notes.new)) }
 {
     match asked.limits {
         Limits::Small => {
@@ -98,7 +100,9 @@ fn fault_of<R: Read + Drop, B: Bounds, N: Write>(
     reader: R,
     notes: &mut N,
 ) -> RowFault
-    ensures { IfSome (R.remaining reader) (λ bytes. IsRecorded B.limits bytes (Err result)) }
+    ensures recorded { IfSome (R.remaining reader) (λ bytes. IsRecorded B.limits bytes (Err result)) }
+    ensures noted { IfSome (R.remaining reader)
+        (λ bytes. NotesStop B.limits result (record_at result.row (records_within B.limits bytes)) (N.contents notes.old) (N.contents notes.new)) }
 {
     match recorded::<R, B, N>(alloc, reader, notes) {
         Ok(recording) => {
@@ -123,7 +127,7 @@ fn run_failed<R: Read + Drop, W: Write, N: Write>(
     notes: &mut N,
 ) -> u8
     ensures { IfSome (R.remaining reader) (λ rest. (required : ℕ)
-        → IsFullRun asked.now required (text.now ++ rest) (W.contents out.old) (W.contents out.new) result) }
+        → IsNotedFull asked.now required (text.now ++ rest) (N.contents notes.old) (N.contents notes.new) (W.contents out.old) (W.contents out.new) result) }
 {
     let whole = text.chain(Failed::new(reader));
     let fault = match asked.limits {
@@ -143,8 +147,10 @@ pub fn run_full<T: Threads + Sync, G: Gate, R: Read + Drop, W: Write, N: Write>(
     out: &mut W,
     notes: &mut N,
 ) -> u8
-    ensures { IfSome (R.remaining reader) (λ bytes.
+    ensures run { IfSome (R.remaining reader) (λ bytes.
         IsFullRun asked.now run.now.options.now.required bytes (W.contents out.old) (W.contents out.new) result) }
+    ensures noted { IfSome (R.remaining reader) (λ bytes.
+        IsNotedFull asked.now run.now.options.now.required bytes (N.contents notes.old) (N.contents notes.new) (W.contents out.old) (W.contents out.new) result) }
 {
     // One byte more shows that there are too many.
     let mut taken = reader.take(asked.limits.bytes() + 1);

@@ -4,6 +4,7 @@ pub mod LineEnds
 pub mod Listing
 pub mod NamesLemmas
 pub mod NoFloats
+pub mod Noting
 pub mod Numbers
 pub mod Runs
 pub mod Unfaulted

@@ -24,7 +24,7 @@ use Rattle.tcc_survey_run.specs.Surveys.{GoesOut, circle_line, survey_status, su
 use Rattle.tcc_survey_run.specs.private.Saying.{SaysFound, SaysSurvey}
 use Rattle.tcc_survey_run.specs.declared.options.SurveyOptions.{SurveyOptions}
 
-may_end : (limits : Limits) (bytes : List ℕ) (fault : RowFault) → IsRecorded limits bytes (Err fault) → (n : ℕ) × MayEnd limits bytes n (by_row fault)
+pub may_end : (limits : Limits) (bytes : List ℕ) (fault : RowFault) → IsRecorded limits bytes (Err fault) → (n : ℕ) × MayEnd limits bytes n (by_row fault)
 may_end limits bytes fault stops = by_test (is_memory fault.kind) refl
   where
     no_memory : true ≡ false → ⊥

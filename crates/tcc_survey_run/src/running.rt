@@ -4,7 +4,7 @@ ghost use Rattle.tcc_rows.specs.{Ahead.fault_met, Answers.answers_within, Answer
 ghost use Rattle.tcc_reads.specs.{Faults.read_faults, Traced.traced_history};
 ghost use Rattle.tcc_graph.specs.Levels.{judged};
 ghost use Rattle.tcc_survey.specs.Contradictions.{IsSurvey};
-ghost use Rattle.tcc_survey_run.specs.{Runs.IsSurveyRun, Runs.limits_of, private.Saying.SaysSurvey};
+ghost use Rattle.tcc_survey_run.specs.{Noting.IsNotedSurvey, Noting.NotesSnapshot, Runs.IsSurveyRun, Runs.limits_of, private.Saying.SaysSurvey};
 
 use crate::noting::note_no_answer;
 use crate::options::SurveyOptions;
@@ -61,7 +61,8 @@ fn answer_checkpoint<B: Bounds, W: Write, N: Write, P: Progress>(
     notes: &mut N,
     progress: &P,
 ) -> u8
-    ensures { SaysSurvey options.now snapshot.now (W.contents out.old) (W.contents out.new) result }
+    ensures said { SaysSurvey options.now snapshot.now (W.contents out.old) (W.contents out.new) result }
+    ensures noted { NotesSnapshot snapshot.now result (N.contents notes.old) (N.contents notes.new) }
 {
     let Ok(examined) = examine(alloc, snapshot, options.level, progress) else {
         return print_memory(out, options.json);
@@ -92,9 +93,12 @@ fn run_recording<R: Read + Drop, B: Bounds, W: Write, N: Write, P: Progress>(
     progress: &P,
 ) -> u8
     requires limits { B.limits ≡ limits_of options.now }
-    ensures { (bytes : List ℕ) → IsRecording B.limits R.remaining recording.old [] (answers_within B.limits bytes)
+    ensures run { (bytes : List ℕ) → IsRecording B.limits R.remaining recording.old [] (answers_within B.limits bytes)
         → IsWithin R.remaining recording.old.rows (records_within B.limits bytes) → fault_met recording.old.rows ≡ None
         → IsSurveyRun options.now bytes (W.contents out.old) (W.contents out.new) result }
+    ensures noted { (bytes : List ℕ) → IsRecording B.limits R.remaining recording.old [] (answers_within B.limits bytes)
+        → IsWithin R.remaining recording.old.rows (records_within B.limits bytes) → fault_met recording.old.rows ≡ None
+        → IsNotedSurvey options.now bytes (N.contents notes.old) (N.contents notes.new) (W.contents out.old) (W.contents out.new) result }
 {
     match recording.pass_seals(alloc) {
         Ok(()) => answer_checkpoint(alloc, recording.snapshot(), options, out, notes, progress),
@@ -112,7 +116,9 @@ fn run_within<R: Read + Drop, B: Bounds, W: Write, N: Write, P: Progress>(
     progress: &P,
 ) -> u8
     requires limits { B.limits ≡ limits_of options.now }
-    ensures { IfSome (R.remaining reader) (λ bytes. IsSurveyRun options.now bytes (W.contents out.old) (W.contents out.new) result) }
+    ensures run { IfSome (R.remaining reader) (λ bytes. IsSurveyRun options.now bytes (W.contents out.old) (W.contents out.new) result) }
+    ensures noted { IfSome (R.remaining reader)
+        (λ bytes. IsNotedSurvey options.now bytes (N.contents notes.old) (N.contents notes.new) (W.contents out.old) (W.contents out.new) result) }
 {
     match RecordingWithin::<R, B>::new(alloc, reader) {
         Ok(recording) => {
@@ -133,7 +139,9 @@ pub fn run_survey<R: Read + Drop, W: Write, N: Write>(
     notes: &mut N,
     options: SurveyOptions,
 ) -> u8
-    ensures { IfSome (R.remaining reader) (λ bytes. IsSurveyRun options bytes (W.contents out.old) (W.contents out.new) result) }
+    ensures run { IfSome (R.remaining reader) (λ bytes. IsSurveyRun options bytes (W.contents out.old) (W.contents out.new) result) }
+    ensures noted { IfSome (R.remaining reader)
+        (λ bytes. IsNotedSurvey options bytes (N.contents notes.old) (N.contents notes.new) (W.contents out.old) (W.contents out.new) result) }
 {
     run_survey_watched(alloc, reader, out, notes, options, &Unwatched)
 }
@@ -147,7 +155,9 @@ pub fn run_survey_watched<R: Read + Drop, W: Write, N: Write, P: Progress>(
     options: SurveyOptions,
     progress: &P,
 ) -> u8
-    ensures { IfSome (R.remaining reader) (λ bytes. IsSurveyRun options bytes (W.contents out.old) (W.contents out.new) result) }
+    ensures run { IfSome (R.remaining reader) (λ bytes. IsSurveyRun options bytes (W.contents out.old) (W.contents out.new) result) }
+    ensures noted { IfSome (R.remaining reader)
+        (λ bytes. IsNotedSurvey options bytes (N.contents notes.old) (N.contents notes.new) (W.contents out.old) (W.contents out.new) result) }
 {
     if options.large {
         run_within::<R, LargeLimits, W, N, P>(alloc, reader, &options, out, notes, progress)

@@ -1,3 +1,4 @@
 pub mod Quiet
+pub mod Noting
 pub mod Watching
 pub mod private

@@ -1,12 +1,12 @@
 //! How what a watch says is written, and kept.
-ghost use Rattle.std.specs.Prelude.{◌≡◌, ◌≢◌, ◌-◌, Bool, IfErr, IfOk, List, MatchResult, Ok, OnOk, Some};
+ghost use Rattle.std.specs.Prelude.{◌≡◌, ◌≢◌, ◌-◌, Bool, IfErr, IfOk, List, MatchResult, Ok, OnErr, OnOk, Some};
 ghost use Rattle.std.specs.Io.KnownBytes.{Appends};
 ghost use Rattle.tcc_txn.specs.{Finished.transaction_count, Snapshots.Sessions};
 ghost use Rattle.tcc_rows.specs.declared.recording.Checkpoint.TheVariants as checkpoints;
 ghost use Rattle.tcc_print.specs.{Notes.AddsEach, Notes.IsNoted, Notes.read_notes, Notes.too_few_text, Printed.CutsOff, Saying.EndsAnswering, Saying.IsTold, Saying.SaysAt, Saying.SaysLast};
 ghost use Rattle.tcc_print.specs.declared.status.Status.TheVariants as statuses;
 ghost use Rattle.tcc_reads.specs.{History.count, Sources.history};
-ghost use Rattle.tcc_watch_run.specs.private.Stages.{course};
+ghost use Rattle.tcc_watch_run.specs.private.Stages.{NotesSaid, course};
 
 use crate::counting::committed_of;
 use crate::told::SnapshotAnswer;
@@ -31,6 +31,7 @@ fn tell<T, G, W: Write, N: Write>(
     ensures whole { OnOk result (Appends (W.contents out.old) (W.contents out.new) told.now.text.items) }
     ensures cut { IfErr result (λ code. CutsOff (W.contents out.old) (W.contents out.new) told.now.text.items code) }
     ensures noted { OnOk result (AddsEach (N.contents notes.old) (N.contents notes.new) (read_notes snapshot.now told.now.faults.items)) }
+    ensures unnoted { OnErr result (N.contents notes.new ≡ N.contents notes.old) }
 {
     if send(out, &told.text).is_err() {
         return Err(Status::Device.code());
@@ -51,7 +52,7 @@ pub(crate) fn print_new<T, G, W: Write, N: Write>(
     ensures said { (quiet : Bool) (checkpoints : List Sessions) → IfOk found (IsTold (course quiet run.now.options.now checkpoints) snapshot.now)
         → MatchResult result (SaysLast (course quiet run.now.options.now checkpoints) snapshot.now (W.contents out.old) (W.contents out.new))
         (EndsAnswering (course quiet run.now.options.now checkpoints) snapshot.now (W.contents out.old) (W.contents out.new)) }
-    ensures noted { IfOk result (λ last. AddsEach (N.contents notes.old) (N.contents notes.new) (read_notes snapshot.now last.outcome.faults.items)) }
+    ensures noted { NotesSaid snapshot.now (N.contents notes.old) (N.contents notes.new) result }
 {
     match found {
         Ok(outcome) => {
@@ -78,8 +79,8 @@ pub(crate) fn print_unchanged<T, G, W: Write, N: Write>(
     ensures kept { IfOk result (λ now. now ≡ last) }
     ensures said { (quiet : Bool) (checkpoints : List Sessions) → last.transactions ≡ transaction_count snapshot.now
         → SaysAt (course quiet run.now.options.now checkpoints) checkpoint snapshot.now (Some last) (W.contents out.old) (W.contents out.new) result }
-    ensures noted { checkpoint ≡ checkpoints.Seal
-        → IfOk result (λ last. AddsEach (N.contents notes.old) (N.contents notes.new) (read_notes snapshot.now last.outcome.faults.items)) }
+    ensures noted { checkpoint ≡ checkpoints.Seal → NotesSaid snapshot.now (N.contents notes.old) (N.contents notes.new) result }
+    ensures unnoted { checkpoint ≡ checkpoints.End → N.contents notes.new ≡ N.contents notes.old }
 {
     match checkpoint {
         Checkpoint::Seal => {

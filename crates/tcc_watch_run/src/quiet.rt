@@ -2,7 +2,7 @@
 ghost use Rattle.std.specs.Prelude.{IfOk, IfSome, List, OnOk, true};
 ghost use Rattle.tcc_txn.specs.{Nested.IsNested, Snapshots.Sessions};
 ghost use Rattle.tcc_print.specs.{Courses.AreSaidFaults, Saying.IsTold};
-ghost use Rattle.tcc_watch_run.specs.Quiet.{IsQuietRun};
+ghost use Rattle.tcc_watch_run.specs.{Noting.IsNotedQuiet, Quiet.IsQuietRun};
 ghost use Rattle.tcc_watch_run.specs.private.Following.{IsAtStart, IsFollowing};
 ghost use Rattle.tcc_watch_run.specs.private.Stages.{Knows, course, told_said};
 
@@ -137,7 +137,8 @@ pub fn run_quiet<R: Read + Drop, W: Write, N: Write, G: Watcher>(
     options: Options,
     watcher: &G,
 ) -> u8
-    ensures { IfSome (R.remaining reader) (λ bytes. IsQuietRun options bytes (W.contents out.old) (W.contents out.new) result) }
+    ensures run { IfSome (R.remaining reader) (λ bytes. IsQuietRun options bytes (W.contents out.old) (W.contents out.new) result) }
+    ensures noted { IfSome (R.remaining reader) (λ bytes. IsNotedQuiet options bytes (N.contents notes.old) (N.contents notes.new) result) }
 {
     match Quietly::new(alloc) {
         Ok(quietly) => {

@@ -1,13 +1,15 @@
 //! From the bytes of records to what is said at each seal, and at the end.
-ghost use Rattle.std.specs.Prelude.{◌≡◌, ℕ, Bool, List, [], None, IfErr, IfSome, MatchResult, OnOk};
+ghost use Rattle.std.specs.Prelude.{◌≡◌, ℕ, Bool, List, [], None, IfErr, IfOk, IfSome, MatchResult, OnOk, true};
 ghost use Rattle.tcc_rows.specs.{Ahead.fault_met, Answers.Answers, Answers.answers_to, Lines.Record, Reached.IsWithin, declared.rows.Item.Item};
+ghost use Rattle.tcc_rows.specs.Reached.{is_of_record, last_record, record_at};
 ghost use Rattle.tcc_rows.specs.Recordings.{FailsBehind, IsRecording, TakesCheckpoint, after_items};
 ghost use Rattle.tcc_txn.specs.{Nested.IsNested, Snapshots.Sessions, declared.limits.Limits.TheVariants.Large};
 ghost use Rattle.tcc_run.specs.LargeRuns.{answers_of, records_of};
 ghost use Rattle.tcc_print.specs.{Saying.SaysAt, private.Courses.AllAnswered, private.Courses.EndsEarly};
+ghost use Rattle.tcc_watch_run.specs.Noting.{IsNotedWatch};
 ghost use Rattle.tcc_watch_run.specs.Watching.{IsWatchRun, checkpoints_of};
 ghost use Rattle.tcc_watch_run.specs.private.Following.{IsAtStart, IsFollowing};
-ghost use Rattle.tcc_watch_run.specs.private.Stages.{IsRunBy, KnowsLast, course, follower_of, is_quiet, was_told};
+ghost use Rattle.tcc_watch_run.specs.private.Stages.{AllNoted, EndsNoted, HasFaults, NotesRunBy, IsRunBy, KnowsLast, NotesAt, course, follower_of, is_quiet, was_told};
 
 use crate::answering::Answerer;
 use crate::following::Follower;
@@ -46,8 +48,11 @@ fn answer_checkpoint<T: Threads + Sync, W: Write, N: Write, G: Watcher>(
 ) -> Result<PreviousAnswer<SnapshotAnswer>, u8>
     requires following { IsFollowing (follower_of answerer.old) }
     requires nested { IsNested (follower_of answerer.old).watch snapshot.now }
+    requires faults { IfSome last (λ last. HasFaults run.now.options.now last.outcome) }
     ensures said { (quiet : Bool) (checkpoints : List Sessions) → is_quiet answerer.old ≡ quiet → KnowsLast run.now.options.now checkpoints snapshot.now last
         → SaysAt (course quiet run.now.options.now checkpoints) checkpoint snapshot.now last (W.contents out.old) (W.contents out.new) result }
+    ensures noted { NotesAt checkpoint snapshot.now last (N.contents notes.old) (N.contents notes.new) result }
+    ensures faults { IfOk result (λ last. HasFaults run.now.options.now last.outcome) }
     ensures quiet { is_quiet answerer.new ≡ is_quiet answerer.old }
     ensures follows { OnOk result (IsFollowing (follower_of answerer.new)) }
     ensures nests { OnOk result (IsNested (follower_of answerer.new).watch snapshot.now) }
@@ -77,6 +82,9 @@ fn read_on<R: Read + Drop, T, G: Watcher>(
         → IsWithin R.remaining recording.old.rows all → IsRecording Large R.remaining recording.old taken ahead
         → FailsBehind Large taken fault.row all) }
     ensures goes_on { OnOk result (fault_met recording.new.rows ≡ None) }
+    ensures faulty { IfErr result (λ fault. fault_met recording.old.rows ≡ None → is_of_record fault.kind ≡ true
+        → (all : List Record) (taken : List Item) (ahead : Answers) → IsWithin R.remaining recording.old.rows all
+        → IsRecording Large R.remaining recording.old taken ahead → last_record recording.new.rows ≡ record_at fault.row all) }
 {
     run.gate.begin(RunStage::Reading);
     let checkpoint = recording.advance(run.alloc);
@@ -95,10 +103,14 @@ fn answer_all<R: Read + Drop, T: Threads + Sync, W: Write, N: Write, G: Watcher>
 ) -> Result<PreviousAnswer<SnapshotAnswer>, u8>
     requires following { IsFollowing (follower_of answerer.old) }
     requires nested { IsNested (follower_of answerer.old).watch recording.old.snapshot }
-    ensures { (bytes : List ℕ) → IsRecording Large R.remaining recording.old [] (answers_of bytes) → IsWithin R.remaining recording.old.rows (records_of bytes)
+    ensures answers { (bytes : List ℕ) → IsRecording Large R.remaining recording.old [] (answers_of bytes) → IsWithin R.remaining recording.old.rows (records_of bytes)
         → fault_met recording.old.rows ≡ None
         → MatchResult result (AllAnswered (course (is_quiet answerer.old) run.now.options.now (checkpoints_of bytes)) bytes (W.contents out.old) (W.contents out.new))
         (EndsEarly (course (is_quiet answerer.old) run.now.options.now (checkpoints_of bytes)) bytes (W.contents out.old) (W.contents out.new)) }
+    ensures noted { (bytes : List ℕ) → IsRecording Large R.remaining recording.old [] (answers_of bytes) → IsWithin R.remaining recording.old.rows (records_of bytes)
+        → fault_met recording.old.rows ≡ None
+        → MatchResult result (λ _. AllNoted (is_quiet answerer.old) run.now.options.now bytes recording.new.snapshot (N.contents notes.old) (N.contents notes.new))
+        (λ _. EndsNoted (is_quiet answerer.old) run.now.options.now bytes (N.contents notes.old) (N.contents notes.new)) }
 {
     let mut last: Option<PreviousAnswer<SnapshotAnswer>> = None;
     'checkpoints: for _turn in 0..u64::MAX {
@@ -137,9 +149,12 @@ fn run_recording<R: Read + Drop, T: Threads + Sync, W: Write, N: Write, G: Watch
 ) -> u8
     requires following { IsFollowing (follower_of answerer.old) }
     requires nested { IsNested (follower_of answerer.old).watch recording.old.snapshot }
-    ensures { (bytes : List ℕ) → IsRecording Large R.remaining recording.old [] (answers_of bytes) → IsWithin R.remaining recording.old.rows (records_of bytes)
+    ensures run { (bytes : List ℕ) → IsRecording Large R.remaining recording.old [] (answers_of bytes) → IsWithin R.remaining recording.old.rows (records_of bytes)
         → fault_met recording.old.rows ≡ None
         → IsRunBy (is_quiet answerer.old) run.now.options.now bytes (W.contents out.old) (W.contents out.new) result }
+    ensures noted { (bytes : List ℕ) → IsRecording Large R.remaining recording.old [] (answers_of bytes) → IsWithin R.remaining recording.old.rows (records_of bytes)
+        → fault_met recording.old.rows ≡ None
+        → NotesRunBy (is_quiet answerer.old) run.now.options.now bytes (N.contents notes.old) (N.contents notes.new) result }
 {
     match answer_all(run, answerer, recording, out, notes) {
         Ok(last) => {
@@ -160,7 +175,9 @@ pub(crate) fn run_reader<R: Read + Drop, T: Threads + Sync, W: Write, N: Write, 
 ) -> u8
     requires following { IsFollowing (follower_of answerer.old) }
     requires start { IsAtStart (follower_of answerer.old) }
-    ensures { IfSome (R.remaining reader) (λ bytes. IsRunBy (is_quiet answerer.old) run.now.options.now bytes (W.contents out.old) (W.contents out.new) result) }
+    ensures run { IfSome (R.remaining reader) (λ bytes. IsRunBy (is_quiet answerer.old) run.now.options.now bytes (W.contents out.old) (W.contents out.new) result) }
+    ensures noted { IfSome (R.remaining reader)
+        (λ bytes. NotesRunBy (is_quiet answerer.old) run.now.options.now bytes (N.contents notes.old) (N.contents notes.new) result) }
 {
     match LargeRecording::new(run.alloc, reader) {
         Ok(recording) => {
@@ -185,7 +202,8 @@ pub fn run_watch<R: Read + Drop, W: Write, N: Write, G: Watcher>(
     options: Options,
     watcher: &G,
 ) -> u8
-    ensures { IfSome (R.remaining reader) (λ bytes. IsWatchRun options bytes (W.contents out.old) (W.contents out.new) result) }
+    ensures run { IfSome (R.remaining reader) (λ bytes. IsWatchRun options bytes (W.contents out.old) (W.contents out.new) result) }
+    ensures noted { IfSome (R.remaining reader) (λ bytes. IsNotedWatch options bytes (N.contents notes.old) (N.contents notes.new) result) }
 {
     match Follower::new(alloc) {
         Ok(follower) => {

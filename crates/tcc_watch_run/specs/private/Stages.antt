@@ -1,16 +1,22 @@
 -- How the stages of a run follow one another.
-use Rattle.std.specs.Prelude.{ℕ, ◌≡◌, ◌≢◌, ◌⊎◌, Bool, true, false, List, Option, None, Some, IfSome}
+use Rattle.std.specs.Prelude.{ℕ, ◌≡◌, ◌≢◌, ◌⊎◌, Bool, true, false, List, ◌++◌, Option, None, Some, IfSome, MatchResult, Result}
 use Rattle.std.specs.Io.KnownBytes.{Appends}
 use Rattle.tcc_txn.specs.Finished.{transaction_count}
 use Rattle.tcc_txn.specs.Snapshots.{Sessions}
 use Rattle.tcc_txn.specs.declared.limits.Limits.TheVariants.{Large}
-use Rattle.tcc_run.specs.LargeRuns.{IsSaidWithLarge}
-use Rattle.tcc_print.specs.Courses.{IsCourse, Said}
+use Rattle.tcc_rows.specs.Items.{finished_in}
+use Rattle.tcc_rows.specs.declared.recording.Checkpoint.{Checkpoint}
+use Rattle.tcc_rows.specs.declared.recording.Checkpoint.TheVariants as checkpoint
+use Rattle.tcc_run.specs.LargeRuns.{IsSaidWithLarge, answers_of}
+use Rattle.tcc_print.specs.Checkpoints.{at_end, sealed_in}
+use Rattle.tcc_print.specs.Courses.{AreSaidFaults, IsCourse, Said}
+use Rattle.tcc_print.specs.Notes.{AddsEach, read_notes}
 use Rattle.tcc_print.specs.Printed.{CutsOff}
 use Rattle.tcc_print.specs.Saying.{Course}
 use Rattle.tcc_print.specs.Statuses.{code_of}
 use Rattle.tcc_print.specs.declared.previous.PreviousAnswer.{PreviousAnswer}
 use Rattle.tcc_print.specs.declared.options.Options.{Options}
+use Rattle.tcc_watch_run.specs.Noting.{IsEndedNoted, IsNotedBy, NotesEach}
 use Rattle.tcc_watch_run.specs.Quiet.{IsQuietlySaid}
 use Rattle.tcc_watch_run.specs.Watching.{IsAnomaly, IsWatched, WasAnomaly, checkpoints_of}
 use Rattle.tcc_watch_run.specs.declared.answering.Answerer.{Answerer}
@@ -70,6 +76,35 @@ course quiet options checkpoints = record {
   is_outcome = λ s told. KnowsNow options checkpoints s told.has_told;
   say = told_said;
 }
+
+-- these read faults are what was said
+abbrev pub HasFaults : Options → Told → Type 0
+HasFaults options told = AreSaidFaults options (told_said told) told.faults.items
+
+-- the notes of what was said of a snapshot; where nothing was said, none
+abbrev pub NotesSaid : Sessions → Option (List ℕ) → Option (List ℕ) → Result (PreviousAnswer Told) ℕ → Type 0
+NotesSaid s before after r = MatchResult r (λ now. AddsEach before after (read_notes s now.outcome.faults.items)) (λ _. after ≡ before)
+
+-- what is noted at a checkpoint: at the end nothing, if nothing was finished since something was said
+abbrev pub NotesAt : Checkpoint → Sessions → Option (PreviousAnswer Told) → Option (List ℕ) → Option (List ℕ) → Result (PreviousAnswer Told) ℕ → Type 0
+NotesAt checkpoint.Seal s last before after r = NotesSaid s before after r
+NotesAt checkpoint.End s last before after r =
+    IfSome last (λ last. last.transactions ≡ transaction_count s → after ≡ before)
+    × (IfSome last (λ last. last.transactions ≢ transaction_count s) → NotesSaid s before after r)
+
+-- all was said, of all that was finished, and noted
+abbrev pub AllNoted : Bool → Options → List ℕ → Sessions → Option (List ℕ) → Option (List ℕ) → Type 0
+AllNoted quiet options bytes s before after =
+    ((answers_of bytes).fault ≡ None) × (s ≡ finished_in (answers_of bytes).items)
+    × NotesEach (IsSaidBy quiet options (checkpoints_of bytes)) options (sealed_in (answers_of bytes).items ++ at_end (answers_of bytes).items) before after
+
+-- the run ended before, with the notes so far and that of what ended it
+abbrev pub EndsNoted : Bool → Options → List ℕ → Option (List ℕ) → Option (List ℕ) → Type 0
+EndsNoted quiet options bytes before after = IsEndedNoted (IsSaidBy quiet options (checkpoints_of bytes)) options bytes before after
+
+-- what a run notes, quietly or as a watch
+abbrev pub NotesRunBy : Bool → Options → List ℕ → Option (List ℕ) → Option (List ℕ) → ℕ → Type 0
+NotesRunBy quiet options bytes before after code = IsNotedBy (IsSaidBy quiet options (checkpoints_of bytes)) options bytes before after code
 
 -- what a run does with the bytes, quietly or as a watch
 abbrev pub IsRunBy : Bool → Options → List ℕ → Option (List ℕ) → Option (List ℕ) → ℕ → Type 0

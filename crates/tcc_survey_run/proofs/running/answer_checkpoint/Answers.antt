@@ -6,16 +6,30 @@ use Rattle.tcc_survey.specs.Circles.{IsCircle}
 use Rattle.tcc_survey.specs.Contradictions.{AreContradicted, IsSurvey}
 use Rattle.tcc_survey.specs.declared.surveyed.Surveyed.TheVariants as answer
 use Rattle.tcc_survey_run.proofs.Circular.{circle_below}
+use Rattle.tcc_survey_run.proofs.Noting.{listing_noted, nothing_noted}
 use Rattle.tcc_survey_run.proofs.Runs.{circular, listed}
 use Rattle.tcc_survey_run.proofs.running.answer_checkpoint.Goals as goal
 
-pub returns-in-Listed : goal.returns-in-Listed
-returns-in-Listed g c =
+pub returns-in-Listed-clause-said : goal.returns-in-Listed-clause-said
+returns-in-Listed-clause-said g c =
     let s = c.args.snapshot.now in
     let j = judged (traced_history s) c.args.options.now.level in
     let is : IsSurvey j (answer.Listed c.in-Listed.found) = subst (IsSurvey j) c.in-Listed.is c.in-Ok.ensures.surveyed in
     listed c.args.options.now s _ c.deref-in-Listed.result.now _ _ c.say_found-code.result c.in-Ok.ensures.graph
     (is.0, subst (AreContradicted j) (sym c.deref-in-Listed.ensures.value) is.1) c.say_found-code.ensures
+
+pub returns-in-Listed-clause-noted : goal.returns-in-Listed-clause-noted
+returns-in-Listed-clause-noted g c =
+    let s = c.args.snapshot.now in
+    let j = judged (traced_history s) c.args.options.now.level in
+    let is : IsSurvey j (answer.Listed c.in-Listed.found) = subst (IsSurvey j) c.in-Listed.is c.in-Ok.ensures.surveyed in
+    listing_noted s c.say_found-code.result c.in-Ok.examined.faults.items _ _ _ c.in-Ok.ensures.faults is.0 c.note_reads.ensures.each c.note_no_answer.ensures
+
+pub returns-in-Err-clause-noted : goal.returns-in-Err-clause-noted
+returns-in-Err-clause-noted g c = nothing_noted c.args.snapshot.now c.print_memory.result _
+
+pub returns-clause-noted : goal.returns-clause-noted
+returns-clause-noted g c = nothing_noted c.args.snapshot.now c.say_circle.result _
 
 pub say_circle-requires : goal.say_circle-requires
 say_circle-requires g c =
@@ -25,8 +39,8 @@ say_circle-requires g c =
     (circle_below h c.deref-in-Circular.result.now
     (subst (IsCircle h) (sym c.deref-in-Circular.ensures.value) (subst (IsSurvey j) c.in-Circular.is c.in-Ok.ensures.surveyed)))
 
-pub returns : goal.returns
-returns g c =
+pub returns-clause-said : goal.returns-clause-said
+returns-clause-said g c =
     let s = c.args.snapshot.now in
     let h = traced_history s in
     let j = judged h c.args.options.now.level in

@@ -8,6 +8,8 @@ use Rattle.tcc_run.specs.LargeRuns.{records_of}
 use Rattle.tcc_watch_run.specs.Watching.{checkpoints_of}
 use Rattle.tcc_watch_run.specs.private.Stages.{course, follower_of, is_quiet}
 use Rattle.tcc_watch_run.proofs.Earlier.{knows_at}
+use Rattle.tcc_watch_run.proofs.Noting as noting
+use Rattle.tcc_watch_run.proofs.Noting.{none_noted}
 use Rattle.tcc_watch_run.proofs.running.answer_all.Goals as goal
 
 pub checkpoints-init : goal.checkpoints-init
@@ -19,6 +21,9 @@ checkpoints-init g c = record {
   quiet = refl;
   following = c.requires.following;
   nested = c.requires.nested;
+  faults = tt;
+  noted = λ text recording. none_noted g.R.Read.remaining (is_quiet c.args.answerer.now) c.args.run.now.options.now text c.args.recording.now
+      (g.N.Write.contents c.args.notes.now) recording;
 }
 
 pub checkpoints-preserved : goal.checkpoints-preserved
@@ -35,10 +40,21 @@ checkpoints-preserved g c = record {
   quiet = c.answer_checkpoint.ensures.quiet ∙ c.checkpoints.invariant.quiet;
   following = c.in_ok-said-in-Ok.ensures.follows;
   nested = subst (IsNested (follower_of c.answer_checkpoint.new.answerer).watch) c.snapshot.ensures.value c.in_ok-said-in-Ok.ensures.nests;
+  faults = c.in_ok-said-in-Ok.ensures.faults;
+  noted = λ text recording.
+      let way = c.checkpoints.invariant.way text recording in
+      noting.goes_on (c.checkpoints.invariant.noted text recording) c.read_on.new.recording c.in-Ok.checkpoint c.in-Ok.ensures.checkpoint
+      c.snapshot.result.now c.snapshot.ensures.finished _ c.in-Seal.is c.in_ok-said-in-Ok.said _ _
+      (goes-on way c.read_on.new.recording c.in-Ok.checkpoint c.in-Ok.ensures.checkpoint
+      c.snapshot.result.now c.snapshot.ensures.finished (g.W.Write.contents c.answer_checkpoint.new.out) c.in-Seal.is c.in_ok-said-in-Ok.said
+      (c.in_ok-said-in-Ok.ensures.said (is_quiet c.args.answerer.now) (checkpoints_of text) c.checkpoints.invariant.quiet
+      (knows_at g.R.Read.remaining (is_quiet c.args.answerer.now) c.args.run.now.options.now text c.checkpoints.recording _ _ c.checkpoints.last way c.read_on.new.recording c.in-Ok.checkpoint
+      c.in-Ok.ensures.checkpoint c.snapshot.result.now c.snapshot.ensures.finished)))
+      c.in_ok-said-in-Ok.ensures.faults c.in_ok-said-in-Ok.ensures.noted;
 }
 
-pub returns-in_err-said-in-Ok : goal.returns-in_err-said-in-Ok
-returns-in_err-said-in-Ok g c text recording within fresh =
+pub returns-in_err-said-in-Ok-clause-answers : goal.returns-in_err-said-in-Ok-clause-answers
+returns-in_err-said-in-Ok-clause-answers g c text recording within fresh =
     let way = c.checkpoints.invariant.way text recording in
     ends-there way c.read_on.new.recording c.in-Ok.checkpoint c.in-Ok.ensures.checkpoint
     c.snapshot.result.now c.snapshot.ensures.finished _ c.from_residual.result c.in_err-said-in-Ok.field-0.0 c.from_residual.ensures.1
@@ -46,8 +62,8 @@ returns-in_err-said-in-Ok g c text recording within fresh =
     (knows_at g.R.Read.remaining (is_quiet c.args.answerer.now) c.args.run.now.options.now text c.checkpoints.recording _ _ c.checkpoints.last way c.read_on.new.recording c.in-Ok.checkpoint
     c.in-Ok.ensures.checkpoint c.snapshot.result.now c.snapshot.ensures.finished))
 
-pub returns-in-End : goal.returns-in-End
-returns-in-End g c text recording within fresh =
+pub returns-in-End-clause-answers : goal.returns-in-End-clause-answers
+returns-in-End-clause-answers g c text recording within fresh =
     let way = c.checkpoints.invariant.way text recording in
     has-ended way c.read_on.new.recording c.in-Ok.checkpoint c.in-Ok.ensures.checkpoint
     c.snapshot.result.now c.snapshot.ensures.finished _ c.in-End.is c.in_ok-said-in-Ok.said
@@ -55,18 +71,43 @@ returns-in-End g c text recording within fresh =
     (knows_at g.R.Read.remaining (is_quiet c.args.answerer.now) c.args.run.now.options.now text c.checkpoints.recording _ _ c.checkpoints.last way c.read_on.new.recording c.in-Ok.checkpoint
     c.in-Ok.ensures.checkpoint c.snapshot.result.now c.snapshot.ensures.finished))
 
-pub returns-in-Err : goal.returns-in-Err
-returns-in-Err g c text recording within fresh =
+pub returns-in-Err-clause-answers : goal.returns-in-Err-clause-answers
+returns-in-Err-clause-answers g c text recording within fresh =
     ends-fault g.R.Read.remaining (course (is_quiet c.args.answerer.now) c.args.run.now.options.now (checkpoints_of text)) text
     c.checkpoints.recording c.read_on.new.recording _ _ c.checkpoints.last (c.checkpoints.invariant.way text recording)
     c.in-Err.fault _ c.stop.result c.in-Err.ensures.checkpoint (c.checkpoints.invariant.within (records_of text) within)
     (c.in-Err.ensures.failed (c.checkpoints.invariant.going fresh)) c.stop.ensures.printed
 
-pub returns : goal.returns
-returns g c text recording within fresh =
+pub returns-clause-answers : goal.returns-clause-answers
+returns-clause-answers g c text recording within fresh =
     wants_memory g.R.Read.remaining (course (is_quiet c.args.answerer.now) c.args.run.now.options.now (checkpoints_of text)) text
     c.checkpoints.recording c.checkpoints.recording _ _ c.checkpoints.last (c.checkpoints.invariant.way text recording) _
     c.print_endless.result c.print_endless.ensures
+
+pub returns-in_err-said-in-Ok-clause-noted : goal.returns-in_err-said-in-Ok-clause-noted
+returns-in_err-said-in-Ok-clause-noted g c text recording within fresh =
+    noting.ended_by c.from_residual.result c.in_err-said-in-Ok.field-0.0 c.from_residual.ensures.1
+    (noting.ends_there (c.checkpoints.invariant.noted text recording) c.read_on.new.recording c.in-Ok.checkpoint c.in-Ok.ensures.checkpoint
+    c.snapshot.result.now c.snapshot.ensures.finished _ c.in_err-said-in-Ok.field-0.0 c.in_err-said-in-Ok.ensures.noted)
+
+pub returns-in-End-clause-noted : goal.returns-in-End-clause-noted
+returns-in-End-clause-noted g c text recording within fresh =
+    let way = c.checkpoints.invariant.way text recording in
+    noting.has_ended (c.checkpoints.invariant.noted text recording) c.read_on.new.recording c.in-Ok.checkpoint c.in-Ok.ensures.checkpoint
+    c.snapshot.result.now c.snapshot.ensures.finished _ c.in-End.is c.in_ok-said-in-Ok.said _ _
+    (c.in_ok-said-in-Ok.ensures.said (is_quiet c.args.answerer.now) (checkpoints_of text) c.checkpoints.invariant.quiet
+    (knows_at g.R.Read.remaining (is_quiet c.args.answerer.now) c.args.run.now.options.now text c.checkpoints.recording _ _ c.checkpoints.last way c.read_on.new.recording c.in-Ok.checkpoint
+    c.in-Ok.ensures.checkpoint c.snapshot.result.now c.snapshot.ensures.finished))
+    c.in_ok-said-in-Ok.ensures.faults c.in_ok-said-in-Ok.ensures.noted
+
+pub returns-in-Err-clause-noted : goal.returns-in-Err-clause-noted
+returns-in-Err-clause-noted g c text recording within fresh =
+    noting.ends_fault (c.checkpoints.invariant.noted text recording) c.read_on.new.recording c.in-Err.fault _ _ c.in-Err.ensures.checkpoint
+    (c.checkpoints.invariant.within (records_of text) within) (c.in-Err.ensures.failed (c.checkpoints.invariant.going fresh))
+    (c.in-Err.ensures.faulty (c.checkpoints.invariant.going fresh)) c.stop.ensures.noted
+
+pub returns-clause-noted : goal.returns-clause-noted
+returns-clause-noted g c text recording within fresh = noting.ends_now (c.checkpoints.invariant.noted text recording)
 
 pub answer_checkpoint-requires-clause-nested : goal.answer_checkpoint-requires-clause-nested
 answer_checkpoint-requires-clause-nested g c κs within =

@@ -1,5 +1,6 @@
--- the snapshots at the seals so far were answered, the other items are ahead, and the watch has taken what was answered
+-- the snapshots at the seals so far were answered and noted, the other items are ahead, and the watch has taken what was answered
 use Rattle.std.proofs.Common.{◌≡◌, ℕ, List, [], None}
+use Rattle.std.specs.Prelude.{IfSome}
 use Rattle.tcc_rows.specs.Ahead.{fault_met}
 use Rattle.tcc_rows.specs.Lines.{Record}
 use Rattle.tcc_rows.specs.Reached.{IsWithin}
@@ -10,7 +11,8 @@ use Rattle.tcc_run.specs.LargeRuns.{answers_of}
 use Rattle.tcc_print.proofs.Courses.{HasAnswered}
 use Rattle.tcc_watch_run.specs.Watching.{checkpoints_of}
 use Rattle.tcc_watch_run.specs.private.Following.{IsFollowing}
-use Rattle.tcc_watch_run.specs.private.Stages.{course, follower_of, is_quiet}
+use Rattle.tcc_watch_run.specs.private.Stages.{HasFaults, course, follower_of, is_quiet}
+use Rattle.tcc_watch_run.proofs.Noting.{HasNoted}
 use Rattle.tcc_watch_run.proofs.running.answer_all.Given as goal
 
 abbrev pub invariant-checkpoints : goal.invariant-checkpoints
@@ -23,4 +25,7 @@ invariant-checkpoints g l = record {
   quiet : is_quiet l.answerer ≡ is_quiet l.initial.answerer;
   following : IsFollowing (follower_of l.answerer);
   nested : IsNested (follower_of l.answerer).watch l.recording.snapshot;
+  faults : IfSome l.last (λ last. HasFaults l.run.options.now last.outcome);
+  noted : (text : List ℕ) → IsRecording Large g.R.Read.remaining l.initial.recording [] (answers_of text)
+      → HasNoted g.R.Read.remaining (is_quiet l.initial.answerer) l.run.options.now text l.recording (g.N.Write.contents l.initial.notes) (g.N.Write.contents l.notes) l.last;
 }
