@@ -12,7 +12,7 @@ use std::thread::{self, Threads};
 use std::time::Clock;
 use tcc_base::Workers;
 use tcc_cli::{
-    ErrorReporter, OutputFile, Quiet, RecordInput, Request, VERSION, are_waited_for, check_files,
+    ErrorReporter, OutputFile, Quiet, RecordInput, Request, VERSION, are_waited_for, check_opened,
     exit_code, is_waited_for, open_both, open_input, open_output, open_outputs, print_limits,
     print_unopened, read, size_of,
 };
@@ -388,7 +388,8 @@ fn main(rt: HostRuntime) -> ExitCode {
             if files.large {
                 check_large(&rt, &rt, history, certificate, &mut out)
             } else {
-                check_files(&rt, history, certificate, false, &mut out)
+                let opened = open_both(&rt, history, certificate);
+                check_opened(rt.alloc(), opened, false, &mut out, &mut rt.stderr())
             }
         }
         Ok(Request::Limits { json }) => print_limits(rt.alloc(), json, &mut out),

@@ -3,18 +3,16 @@
 #![tactic(auto)]
 
 use std::process::ExitCode;
-use tcc_cli::{ErrorReporter, check_files, exit_code, read_check};
+use tcc_cli::{ErrorReporter, check_opened, exit_code, open_both, read_check};
 
 fn main(rt: HostRuntime) -> ExitCode {
     let mut out = ErrorReporter::new(rt.stdout(), "standard output", rt.stderr());
     let code = match read_check(&rt, &mut out) {
-        Ok(files) => check_files(
-            &rt,
-            &files.history,
-            &files.certificate,
-            files.large,
-            &mut out,
-        ),
+        Ok(files) => {
+            let opened = open_both(&rt, &files.history, &files.certificate);
+            let mut notes = rt.stderr();
+            check_opened(rt.alloc(), opened, files.large, &mut out, &mut notes)
+        }
         Err(code) => code,
     };
     exit_code(&rt, code)

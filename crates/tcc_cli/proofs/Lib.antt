@@ -1,3 +1,5 @@
+pub mod OrderLines
+pub mod OrdersLeftOut
 pub mod Parsing
 pub mod PlainCommands
 pub mod WorkedCheckerLines

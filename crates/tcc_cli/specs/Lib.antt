@@ -2,6 +2,8 @@ pub mod Checkers
 pub mod CommandLines
 pub mod Files
 pub mod FileIds
+pub mod Taken
 pub mod Opened
 pub mod HandedOn
+pub mod OrderLines
 pub mod Limits

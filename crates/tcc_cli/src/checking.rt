@@ -1,7 +1,6 @@
 //! The check of a certificate for a history, whose files a command line names.
-ghost use Rattle.std.specs.Prelude.{◌≡◌, ◌⊎◌, IfOk, IfSome, MatchResult, false};
+ghost use Rattle.std.specs.Prelude.{◌≡◌, IfOk, IfSome, MatchResult, false};
 ghost use Rattle.std.specs.IoError.{error_kind};
-ghost use Rattle.std.specs.declared.io.ErrorKind.{ErrorKind};
 ghost use Rattle.tcc_cli.specs.Files.{IsRunWithin, PrintsUnopened, PrintsWithin};
 ghost use Rattle.tcc_cli.specs.Opened.{IsAside};
 
@@ -52,20 +51,4 @@ pub fn check_opened<H: Read + Drop, C: Read + Drop, W: Write, N: Write>(
         }
         Err(error) => print_unopened(error.kind(), false, out),
     }
-}
-
-/// Checks the certificate of the one path for the history of the other, within the large limits if these are wanted, and gives the
-/// status of the run. What to mend goes to standard error.
-pub fn check_files<W: Write>(
-    rt: &HostRuntime,
-    history: &str,
-    certificate: &str,
-    large: bool,
-    out: &mut W,
-) -> u8
-    ensures { PrintsWithin large (W.contents out.old) (W.contents out.new) result
-        ⊎ ((kind : ErrorKind) × PrintsUnopened false kind (W.contents out.old) (W.contents out.new) result) }
-{
-    let opened = open_both(rt, history, certificate);
-    check_opened(rt.alloc(), opened, large, out, &mut rt.stderr())
 }

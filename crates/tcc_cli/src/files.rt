@@ -77,7 +77,7 @@ fn are_one(
     other: &Option<ErrorReporter<'_, OutputFile>>,
 ) -> bool
     ensures { MatchOption one.now (result ≡ false) (λ a. MatchOption other.now (result ≡ false)
-        (λ b. IsTrue result ↔ AreSame a.stream.id b.stream.id)) }
+        (λ b. IsTrue result ↔ AreSame a.stream.known.id b.stream.known.id)) }
 {
     match (one, other) {
         (Some(one), Some(other)) => one.stream().is_same(other.stream()),
@@ -103,7 +103,7 @@ pub fn open_outputs<'a>(
     ensures slice_name { IfOk result (λ both. IfSome both.1 (λ telling. IfSome slice.entry (λ name. telling.name ≡ name))) }
     ensures certificate_aside { IfOk result (λ both. IfSome both.0 (λ telling. IsAside telling.stream.file)) }
     ensures slice_aside { IfOk result (λ both. IfSome both.1 (λ telling. IsAside telling.stream.file)) }
-    ensures two { IfOk result (λ both. MatchOption both.0 ⊤ (λ a. MatchOption both.1 ⊤ (λ b. AreSame a.stream.id b.stream.id → ⊥))) }
+    ensures two { IfOk result (λ both. MatchOption both.0 ⊤ (λ a. MatchOption both.1 ⊤ (λ b. AreSame a.stream.known.id b.stream.known.id → ⊥))) }
 {
     let first = open_output(rt, certificate, input)?;
     let second = open_output(rt, slice, input)?;

@@ -12,6 +12,8 @@ mod ending;
 mod files;
 mod help;
 mod input;
+mod known_file;
+pub mod laws;
 mod limits;
 mod opening;
 mod quiet;
@@ -19,7 +21,7 @@ mod reporting;
 mod terminal;
 
 pub use checker::{read_check, read_check_words};
-pub use checking::{check_files, check_opened, open_both};
+pub use checking::{check_opened, open_both};
 pub use command_line::{Files, Request, read, read_words};
 pub use ending::exit_code;
 pub use files::{open_input, open_output, open_outputs, print_unopened};

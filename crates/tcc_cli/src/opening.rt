@@ -1,16 +1,15 @@
 //! Files opened beside the standard streams: none takes the place of one that is closed, and none is made empty that is the
 //! input, the output or standard error.
-ghost use Rattle.std.specs.Prelude.{◌≡◌, ◌↔◌, Some, IfOk, IsTrue, MatchResult};
-ghost use Rattle.std.specs.Fs.{metadata_mode};
+ghost use Rattle.std.specs.Prelude.{◌≡◌, ◌↔◌, IfOk, IsTrue, MatchResult, option_and_then};
 ghost use Rattle.tcc_cli.specs.Opened.{IsAside, LeavesAsIs};
-ghost use Rattle.std.specs.IoError.{error_kind};
-ghost use Rattle.tcc_cli.specs.FileIds.{AreSame, FailsAs, HasId, IsTaken, is_character_device, id_with};
+ghost use Rattle.tcc_cli.specs.FileIds.{AreSame};
+ghost use Rattle.tcc_cli.specs.Taken.{IsTaken, id_of};
 
 use crate::input::RecordInput;
-use std::fs::{self, File, Metadata, OpenOptions};
+use crate::known_file::{FileId, KnownFile, is_same, told};
+use std::fs::{self, File, OpenOptions};
 use std::io::{self, ErrorKind, Write};
 use std::os::fd::AsRawFd;
-use std::os::unix::fs::MetadataExt;
 
 /// What the standard input is open on.
 const INPUT: &str = "/proc/self/fd/0";
@@ -21,106 +20,55 @@ const OUTPUT: &str = "/proc/self/fd/1";
 /// What standard error is open on.
 const ERRORS: &str = "/proc/self/fd/2";
 
-/// Which of all files one is: its device, and its number there.
-#[derive(Clone, Copy, PartialEq, Eq)]
-pub struct FileId {
-    device: u64,
-    number: u64,
+/// The file that a standard stream is open on.
+fn stream(rt: &HostRuntime, link: &str) -> io::Result<KnownFile> {
+    told(fs::metadata(rt, link))
 }
 
-/// Whether a file of this mode is a device of characters.
-pub(crate) fn is_device(mode: u32) -> bool
-    ensures { result ≡ is_character_device mode }
-{
-    // The bits for the kind of a file.
-    mode & 0o170000 == 0o020000
-}
-
-impl FileId {
-    /// The id of a file with this mode: none of a terminal, `/dev/null` and the like, which keep nothing that could be lost.
-    fn with(mode: u32, device: u64, number: u64) -> Option<FileId>
-        ensures { result ≡ id_with mode device number }
-    {
-        if is_device(mode) {
-            return None;
-        }
-        Some(FileId { device, number })
-    }
-
-    fn of(metadata: &Metadata) -> Option<FileId>
-        ensures { HasId (metadata_mode metadata.now) result }
-    {
-        FileId::with(metadata.mode(), metadata.dev(), metadata.ino())
-    }
-}
-
-/// Whether both are the same file.
-fn is_same(one: Option<FileId>, other: Option<FileId>) -> bool
-    ensures { IsTrue result ↔ AreSame one other }
-{
-    match (one, other) {
-        (Some(one), Some(other)) => one == other,
-        _ => false,
-    }
-}
-
-/// The id of the file that a standard stream is open on, by what the system says of it.
-fn told_id(told: io::Result<Metadata>) -> io::Result<Option<FileId>>
-    ensures { MatchResult told (λ metadata. IfOk result (HasId (metadata_mode metadata))) (λ error. FailsAs (error_kind error) result) }
-{
-    match told {
-        Ok(metadata) => Ok(FileId::of(&metadata)),
-        Err(error) => {
-            let message = "nothing tells what the input and the output are";
-            Err(io::Error::new(error.kind(), message))
-        }
-    }
-}
-
-/// The id of the file that a standard stream is open on.
-fn stream(rt: &HostRuntime, link: &str) -> io::Result<Option<FileId>> {
-    told_id(fs::metadata(rt, link))
-}
-
-/// The id of the file that the records come from.
-fn input_id(rt: &HostRuntime, input: &RecordInput) -> io::Result<Option<FileId>> {
+/// The file that the records come from.
+fn input_of(rt: &HostRuntime, input: &RecordInput) -> io::Result<KnownFile> {
     match input {
         RecordInput::Standard(_) => stream(rt, INPUT),
-        RecordInput::File(file) => Ok(FileId::of(&file.metadata()?)),
+        RecordInput::File(file) => Ok(KnownFile::of(file.metadata()?)),
     }
 }
 
-/// The id of the file that notes go to: none where standard error is closed, since nothing goes there then.
-fn errors_id(rt: &HostRuntime) -> Option<FileId> {
-    match stream(rt, ERRORS) {
-        Ok(errors) => errors,
-        Err(_) => None,
-    }
-}
-
-/// The ids of the files that a run reads from and writes to beside the one that it makes.
-#[derive(Clone, Copy)]
+/// The files that a run reads from and writes to beside the one that it makes.
+#[derive(Drop)]
 struct Streams {
-    input: Option<FileId>,
-    output: Option<FileId>,
-    errors: Option<FileId>,
+    input: KnownFile,
+    output: KnownFile,
+    /// None where standard error is closed, since nothing goes there then.
+    errors: Option<KnownFile>,
 }
 
 impl Streams {
     /// Those of a run with this input; an error where the input or the output is closed, or the system doesn't tell.
     fn of(rt: &HostRuntime, input: &RecordInput) -> io::Result<Streams> {
         Ok(Streams {
-            input: input_id(rt, input)?,
+            input: input_of(rt, input)?,
             output: stream(rt, OUTPUT)?,
-            errors: errors_id(rt),
+            errors: stream(rt, ERRORS).ok(),
         })
     }
 
-    /// Whether the file is one of them.
-    fn have(self, file: Option<FileId>) -> bool
-        ensures { IsTrue result ↔ IsTaken file self }
+    /// The id of the file that notes go to.
+    fn errors_id(&self) -> Option<FileId>
+        ensures { result ≡ option_and_then id_of self.now.errors }
     {
-        is_same(file, self.input) || is_same(file, self.output) || is_same(file, self.errors)
+        match &self.errors {
+            Some(errors) => errors.id,
+            None => None,
+        }
+    }
+
+    /// Whether the file is one of them.
+    fn have(&self, file: Option<FileId>) -> bool
+        ensures { IsTrue result ↔ IsTaken file self.now }
+    {
+        is_same(file, self.input.id)
+            || is_same(file, self.output.id)
+            || is_same(file, self.errors_id())
     }
 }
 
@@ -128,30 +76,34 @@ impl Streams {
 #[derive(Drop)]
 pub struct OutputFile {
     file: File,
-    id: Option<FileId>,
+    known: KnownFile,
     streams: Streams,
-    ghost apart: { IsTaken id streams → ⊥ },
+    ghost apart: { IsTaken known.id streams → ⊥ },
 }
 
 impl OutputFile {
-    /// The file with this id, unless it is one of the streams.
-    fn new(file: File, id: Option<FileId>, streams: Streams) -> io::Result<OutputFile>
-        ensures { MatchResult result (λ made. made.file ≡ file) (λ _. IsTaken id streams) }
+    /// The file, of which this is known, unless it is one of the streams.
+    fn new(file: File, known: KnownFile, streams: Streams) -> io::Result<OutputFile>
+        ensures { MatchResult result (λ made. made.file ≡ file) (λ _. IsTaken known.id streams) }
     {
-        if streams.have(id) {
+        if streams.have(known.id) {
             let message = "it is the input, the output or standard error";
             return Err(io::Error::new(ErrorKind::ResourceBusy, message));
         }
-        Ok(OutputFile { file, id, streams })
+        Ok(OutputFile {
+            file,
+            known,
+            streams,
+        })
     }
 }
 
 impl OutputFile {
     /// Whether both are the same file.
     pub(crate) fn is_same(&self, other: &OutputFile) -> bool
-        ensures { IsTrue result ↔ AreSame self.now.id other.now.id }
+        ensures { IsTrue result ↔ AreSame self.now.known.id other.now.known.id }
     {
-        is_same(self.id, other.id)
+        is_same(self.known.id, other.known.id)
     }
 }
 
@@ -210,9 +162,9 @@ pub fn make(rt: &HostRuntime, path: &str, input: &RecordInput) -> io::Result<Out
 {
     let opened = as_it_is().open(rt, path)?;
     let file = aside(opened)?;
-    let metadata = file.metadata()?;
-    let made = OutputFile::new(file, FileId::of(&metadata), Streams::of(rt, input)?)?;
-    if metadata.is_file() {
+    let known = KnownFile::of(file.metadata()?);
+    let made = OutputFile::new(file, known, Streams::of(rt, input)?)?;
+    if made.known.metadata.is_file() {
         made.file.set_len(0)?;
     }
     Ok(made)

@@ -1,7 +1,10 @@
 //! A writer that leaves out the orders of consistent histories, where that is asked for.
-ghost use Rattle.std.specs.Prelude.{◌≡◌, ◌≤◌, length};
+ghost use Rattle.std.specs.Prelude.{◌≡◌, ◌≤◌, ◌<◌, ℕ, IfOk, OnOk, false, true, length, take};
 ghost use Rattle.std.specs.Io.{WritesAtMost};
+ghost use Rattle.std.specs.Io.KnownBytes.{Appends, Keeps, WriteAppends};
 ghost use Rattle.tcc_cli.specs.HandedOn.{handed_on};
+ghost use Rattle.tcc_cli.specs.OrderLines.{AreShown, Flushes, Forwards, ShowsOf, begun_next, ended_line, goes_on, order_start};
+ghost use Rattle.tcc_cli.specs.declared.quiet.LineState.TheVariants as states;
 
 use std::io::{self, Write};
 
@@ -28,27 +31,51 @@ pub struct Quiet<W> {
     line: LineState,
 }
 
-/// How many bytes there are up to the first line feed and with it; all, where there is none.
-fn line_end(bytes: &[u8]) -> usize
-    ensures { result ≤ length bytes.now }
+/// Whether a line that begins with so many bytes of `ORDER` still does with this byte.
+fn goes_on(held: usize, byte: u8) -> bool
+    ensures { result ≡ goes_on held byte }
 {
-    for (index, byte) in bytes.iter().enumerate() {
-        if *byte == b'\n' {
-            return index + 1;
-        }
+    match ORDER.get(held) {
+        Some(expected) => *expected == byte,
+        None => false,
     }
-    bytes.len()
 }
 
-/// How many bytes there are before the first line that may be that of an order, the line at their begin aside.
-fn shown_end(bytes: &[u8]) -> usize
-    ensures { result ≤ length bytes.now }
-{
-    for (index, byte) in bytes.iter().enumerate() {
-        let end = index + 1;
-        if *byte == b'\n' && bytes.get(end).map_or(true, |next| *next == b'o') {
-            return end;
+impl LineState {
+    /// After one byte more of `ORDER` than so many.
+    fn begun(held: usize) -> LineState
+        requires { held < length order_start }
+        ensures { result ≡ begun_next held }
+    {
+        if held + 1 < ORDER.len() {
+            LineState::Begun(held + 1)
+        } else {
+            LineState::LeftOut
         }
+    }
+
+    /// After these bytes of lines that are shown.
+    fn shown(bytes: &[u8]) -> LineState
+        ensures { result ≡ ended_line bytes.now }
+    {
+        match bytes.last() {
+            Some(b'\n') => LineState::Begun(0),
+            _ => LineState::Shown,
+        }
+    }
+}
+
+/// How many bytes of a line that is shown there are, and of others after it, before the first line that may be that of an order.
+fn shown_end(bytes: &[u8]) -> usize
+    ensures bound { result ≤ length bytes.now }
+    ensures shown { (n : ℕ) → n ≤ result → AreShown (take n bytes.now) }
+{
+    let mut is_begun = false;
+    for (index, byte) in bytes.iter().enumerate() {
+        if is_begun && goes_on(0, *byte) {
+            return index;
+        }
+        is_begun = *byte == b'\n';
     }
     bytes.len()
 }
@@ -76,59 +103,69 @@ impl<W: Write> Quiet<W> {
     }
 
     /// Writes what was held back of a line that is written.
-    fn give_back(&mut self, held: usize) -> io::Result<()> {
+    fn give_back(&mut self, held: usize) -> io::Result<()>
+        ensures line { self.new.line ≡ states.Shown }
+        ensures quiet { self.new.is_quiet ≡ self.old.is_quiet }
+        ensures given { OnOk result (Appends (W.contents self.old.stream) (W.contents self.new.stream) (take held order_start)) }
+    {
         self.line = LineState::Shown;
         self.stream.write_all(&ORDER[..held.min(ORDER.len())])
     }
 
     /// Takes bytes of a line that begins with so many of `ORDER`.
     fn begin(&mut self, held: usize, bytes: &[u8]) -> io::Result<usize>
-        ensures { WritesAtMost result bytes.now }
+        requires line { self.old.line ≡ states.Begun held }
+        ensures bound { WritesAtMost result bytes.now }
+        ensures shown { IfOk result (λ n. Forwards true W.contents self.old self.new (take n bytes.now)) }
     {
         let Some(byte) = bytes.first() else {
             return Ok(0);
         };
-        if ORDER.get(held) != Some(byte) {
+        if !goes_on(held, *byte) {
             self.give_back(held)?;
             return self.show(bytes);
         }
-        let held = held.saturating_add(1);
-        self.line = if held < ORDER.len() {
-            LineState::Begun(held)
-        } else {
-            LineState::LeftOut
-        };
+        self.line = LineState::begun(held);
         Ok(1)
     }
 
     /// Takes bytes of a line that is written.
     fn show(&mut self, bytes: &[u8]) -> io::Result<usize>
-        ensures { WritesAtMost result bytes.now }
+        requires line { self.old.line ≡ states.Shown }
+        ensures bound { WritesAtMost result bytes.now }
+        ensures shown { IfOk result (λ n. ShowsOf W.contents self.old self.new (take n bytes.now)) }
     {
         let shown = &bytes[..shown_end(bytes)];
         let count = self.stream.write(shown)?;
-        if shown[..count].last() == Some(&b'\n') {
-            self.line = LineState::Begun(0);
-        }
+        self.line = LineState::shown(&shown[..count]);
         Ok(count)
     }
 
     /// Takes bytes of a line that is left out.
     fn leave_out(&mut self, bytes: &[u8]) -> usize
-        ensures { result ≤ length bytes.now }
+        requires line { self.old.line ≡ states.LeftOut }
+        ensures bound { result ≤ length bytes.now }
+        ensures shown { ShowsOf W.contents self.old self.new (take result bytes.now) }
     {
-        let end = line_end(bytes);
-        if bytes[..end].last() == Some(&b'\n') {
-            self.line = LineState::Begun(0);
+        for (index, byte) in bytes.iter().enumerate() {
+            if *byte == b'\n' {
+                self.line = LineState::Begun(0);
+                return index + 1;
+            }
         }
-        end
+        bytes.len()
     }
 }
 
 impl<W: Write> Write for Quiet<W> {
     ghost contents = { handed_on W.contents };
 
-    fn write(&mut self, bytes: &[u8]) -> io::Result<usize> {
+    /// Where lines of orders are left out, what is shown of the bytes that it takes is written.
+    fn write(&mut self, bytes: &[u8]) -> io::Result<usize>
+        ensures bound { WritesAtMost result bytes.now }
+        ensures bytes { WriteAppends (handed_on W.contents self.old) (handed_on W.contents self.new) result bytes.now }
+        ensures shown { IfOk result (λ n. Forwards self.old.is_quiet W.contents self.old self.new (take n bytes.now)) }
+    {
         if !self.is_quiet {
             return self.stream.write(bytes);
         }
@@ -139,7 +176,11 @@ impl<W: Write> Write for Quiet<W> {
         }
     }
 
-    fn flush(&mut self) -> io::Result<()> {
+    /// What was held back is written.
+    fn flush(&mut self) -> io::Result<()>
+        ensures bytes { Keeps (handed_on W.contents self.old) (handed_on W.contents self.new) }
+        ensures given { OnOk result (Flushes W.contents self.old self.new) }
+    {
         match self.line {
             LineState::Begun(held) if held > 0 => self.give_back(held)?,
             _ => {}

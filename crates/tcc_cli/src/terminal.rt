@@ -4,7 +4,7 @@ ghost use Rattle.std.specs.Fs.{metadata_len, metadata_mode};
 ghost use Rattle.tcc_cli.specs.FileIds.{is_character_device};
 
 use crate::input::RecordInput;
-use crate::opening::is_device;
+use crate::known_file::is_device;
 use std::fs::{self, File, Metadata};
 use std::io;
 use std::os::unix::fs::MetadataExt;
