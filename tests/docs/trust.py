@@ -20,8 +20,8 @@ VALUE = re.compile(r" *ghost Value = \{(.*)\};")
 OPENS_BODY = re.compile(r" *(?:\)|(?:pub )?(?:const )?fn ).*[{;]$")
 HEAD = re.compile(r"(?:abbrev |unfoldable )?pub (?:record |data )?([\w'-]+)")
 WORD = re.compile(r"[^\W\d][\w'-]*(?:\.[^\W\d][\w'-]*)*|◌?[^\s\w()\[\]{},;.]+")
-# Modules whose calls are called by public ones about the process's own words and files, of which no clause can speak.
-BEHIND = {"tcc_cli": ("command_line", "checker", "opening")}
+# Modules whose calls are called by public ones about the process's own words and files, of which no clause can speak, or through a trait.
+BEHIND = {"tcc_cli": ("command_line", "checker", "known_file", "opening", "quiet")}
 QUOTED = re.compile(r"`([^`\n]+)`")
 
 

@@ -81,8 +81,7 @@ IsHidden line bytes = (line_after LeftOut bytes ≡ line) × (shown LeftOut byte
 more_hidden : (xs : List ℕ) (k : ℕ) → k < length xs → IsHidden LeftOut (take k xs) → IsHidden (until_feed LeftOut (get_or xs k 0)) (take (k + 1) xs)
 more_hidden xs k inside (line, none) =
     let byte = get_or xs k 0 in
-    subst (IsHidden (until_feed LeftOut byte)) (sym (take_more xs k inside))
-    (
+    subst (IsHidden (until_feed LeftOut byte)) (sym (take_more xs k inside)) (
       after-append LeftOut (take k xs) (byte ∷ []) ∙ ap (λ line. next_line line byte) line,
       shown-append LeftOut (take k xs) (byte ∷ []) ∙ ap (λ front. front ++ (byte_shown (line_after LeftOut (take k xs)) byte ++ [])) none
           ∙ ap (λ line. byte_shown line byte ++ []) line,

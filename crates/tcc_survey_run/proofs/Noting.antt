@@ -92,7 +92,7 @@ noted_stop options bytes limits fault last noted noted' before after code same i
       by_row fault,
       ends.1,
       subst (λ (l : Limits). NotesRunError l bytes (by_row fault) noted noted') same
-      (fault_noted noted noted' limits bytes {T = ℕ} fault (Err (by_row fault)) refl
-      (fault_shown noted noted' limits fault last (record_at fault.row (records_within limits bytes)) shown stops)),
+          (fault_noted noted noted' limits bytes {T = ℕ} fault (Err (by_row fault)) refl
+          (fault_shown noted noted' limits fault last (record_at fault.row (records_within limits bytes)) shown stops)),
       prints,
     )

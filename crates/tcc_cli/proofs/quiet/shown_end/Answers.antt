@@ -12,4 +12,4 @@ loop-index-preserved c =
       | else-is_begun-via-else-is_begun w ↦ rw w.if-is_begun.false refl
     ] in
     let more = more_shown c.args.bytes.now c.loop-index.index c.loop-index.is_begun c.loop-index-test.true c.loop-index.invariant.shown c.loop-index.invariant.line apart in
-    record { shown = more.0; line = more.1; }
+    record { shown = more.0; line = more.1 }
