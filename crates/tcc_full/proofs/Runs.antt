@@ -1,6 +1,7 @@
 -- What a run does with its bytes, from what its stages tell.
-use Rattle.std.proofs.Common.{◌≡◌, ℕ, ◌+◌, ◌≤◌, false, nat_le, refl, List, [], ◌∷◌, ◌++◌, length, take, Option, None, Some, option_map, cond, Ok, Err, inl, inr, sym, ap, subst, ◌∙◌, arith, length-take-le}
+use Rattle.std.proofs.Common.{◌≡◌, ℕ, ◌+◌, ◌≤◌, false, nat_le, List, [], ◌∷◌, ◌++◌, length, take, Option, None, Some, option_map, cond, Ok, Err, inl, inr, sym, ap, subst, ◌∙◌, arith, length-take-le}
 use Rattle.std.specs.Prelude.{◌⊎◌, IfSome}
+use Rattle.std.specs.Fmt.{option_append}
 use Rattle.std.specs.Io.{appended_bytes}
 use Rattle.std.specs.Io.KnownBytes.{Appends, Consumes}
 use Rattle.std.proofs.KnownBytes.{Appends-nil}
@@ -10,6 +11,7 @@ use Rattle.std.proofs.lemmas.Bool.Decides.{nat_tests}
 use Rattle.csv.specs.Reading.{default_config, records, strip_bom}
 use Rattle.tcc_txn.specs.Limits.{most_bytes}
 use Rattle.tcc_txn.specs.Snapshots.{Sessions}
+use Rattle.tcc_txn.specs.declared.limits.Limits.{Limits}
 use Rattle.tcc_rows.specs.Answers.{Answers, answers_to, answers_within, records_within}
 use Rattle.tcc_rows.specs.ByteLimit.{marked, past_limit}
 use Rattle.tcc_rows.specs.Failing.{FailsAtWithin}
@@ -22,14 +24,14 @@ use Rattle.tcc_full.specs.declared.objects.ReportOptions.{ReportOptions}
 use Rattle.tcc_full.specs.declared.finding.FoundAnswer.{FoundAnswer}
 use Rattle.tcc_verdict.specs.Stopping.{NotesStop}
 use Rattle.tcc_full.specs.FullAnswer.{IsFound}
-use Rattle.tcc_full.specs.Notes.{AreNotesOf, IsNotedAnswer, IsNotedFull}
+use Rattle.tcc_full.specs.Notes.{AreNotesOf, IsNotedFull}
 use Rattle.tcc_full.specs.Runs.{IsFullRun, TellsFault, TellsFound, TellsMemory, finished, within}
 
 -- what a run does with the bytes, whatever it notes
 run_of : (asked : ReportOptions) (required : ℕ) (bytes : List ℕ) (noted noted' before after : Option (List ℕ)) (code : ℕ)
     → IsNotedFull asked required bytes noted noted' before after code → IsFullRun asked required bytes before after code
-run_of asked required bytes noted noted' before after code (inl (lawful, found, is, notes, inl tells)) = inl (lawful, (found, is, tells))
-run_of asked required bytes noted noted' before after code (inl (lawful, found, is, notes, inr memory)) = inr (inr memory)
+run_of asked required bytes noted noted' before after code (inl (lawful, (found, is, notes, inl tells))) = inl (lawful, (found, is, tells))
+run_of asked required bytes noted noted' before after code (inl (lawful, (found, is, notes, inr memory))) = inr (inr memory)
 run_of asked required bytes noted noted' before after code (inr (inl (fault, is, notes, inl tells))) = inr (inl (fault, is, tells))
 run_of asked required bytes noted noted' before after code (inr (inl (fault, is, notes, inr memory))) = inr (inr memory)
 run_of asked required bytes noted noted' before after code (inr (inr (none, memory))) = inr (inr memory)
@@ -69,6 +71,26 @@ told asked required bytes s found noted noted' before after code whole is notes 
 pub out_of_memory : (asked : ReportOptions) (required : ℕ) (bytes : List ℕ) (kept before after : Option (List ℕ)) (code : ℕ)
     → TellsMemory asked before after code → IsNotedFull asked required bytes kept kept before after code
 out_of_memory asked required bytes kept before after code memory = inr (inr (Appends-nil kept, memory))
+
+-- a fault of which nothing is noted
+pub nothing_noted : (limits : Limits) (fault : RowFault) (fields : Record) (before after : Option (List ℕ)) → after ≡ before → NotesStop limits fault fields before after
+nothing_noted limits fault fields before after same = record {
+  noted = λ _. (0, subst (λ (o : Option (List ℕ)). Appends before o []) (sym same) (Appends-nil before));
+  refused = λ _. same;
+}
+
+-- the reader failed after a text
+pub failed_stop : (asked : ReportOptions) (text : List ℕ) (known whole : Option (List ℕ)) (fault : RowFault) (noted noted' before after : Option (List ℕ)) (code : ℕ)
+    → whole ≡ option_append (Some text) known → IfSome whole (λ bytes. IsRecorded asked.limits bytes (Err fault))
+    → IfSome whole (λ bytes. NotesStop asked.limits fault (record_at fault.row (records_within asked.limits bytes)) noted noted')
+    → TellsFault asked fault before after code ⊎ TellsMemory asked before after code
+    → IfSome known (λ rest. (required : ℕ) → IsNotedFull asked required (text ++ rest) noted noted' before after code)
+failed_stop asked text None whole fault noted noted' before after code is recorded notes tells = tt
+failed_stop asked text (Some rest) whole fault noted noted' before after code is recorded notes tells = λ required.
+    stopped asked required (text ++ rest) fault noted noted' before after code
+    (subst (λ (o : Option (List ℕ)). IfSome o (λ bytes. IsRecorded asked.limits bytes (Err fault))) is recorded)
+    (subst (λ (o : Option (List ℕ)). IfSome o (λ bytes. NotesStop asked.limits fault (record_at fault.row (records_within asked.limits bytes)) noted noted')) is notes)
+    tells
 
 -- ---- the bytes past the limit
 

@@ -117,6 +117,23 @@ fn fault_of<R: Read + Drop, B: Bounds, N: Write>(
     }
 }
 
+/// The same, within these limits.
+fn fault_within<R: Read + Drop, N: Write>(
+    alloc: Global,
+    limits: Limits,
+    reader: R,
+    notes: &mut N,
+) -> RowFault
+    ensures recorded { IfSome (R.remaining reader) (λ bytes. IsRecorded limits bytes (Err result)) }
+    ensures noted { IfSome (R.remaining reader)
+        (λ bytes. NotesStop limits result (record_at result.row (records_within limits bytes)) (N.contents notes.old) (N.contents notes.new)) }
+{
+    match limits {
+        Limits::Small => fault_of::<R, SmallLimits, N>(alloc, reader, notes),
+        Limits::Large => fault_of::<R, LargeLimits, N>(alloc, reader, notes),
+    }
+}
+
 /// The run of a text after which the reader failed.
 fn run_failed<R: Read + Drop, W: Write, N: Write>(
     alloc: Global,
@@ -130,10 +147,7 @@ fn run_failed<R: Read + Drop, W: Write, N: Write>(
         → IsNotedFull asked.now required (text.now ++ rest) (N.contents notes.old) (N.contents notes.new) (W.contents out.old) (W.contents out.new) result) }
 {
     let whole = text.chain(Failed::new(reader));
-    let fault = match asked.limits {
-        Limits::Small => fault_of::<_, SmallLimits, N>(alloc, whole, notes),
-        Limits::Large => fault_of::<_, LargeLimits, N>(alloc, whole, notes),
-    };
+    let fault = fault_within(alloc, asked.limits, whole, notes);
     tell_fault(alloc, asked, &fault, out)
 }
 

@@ -4,7 +4,7 @@ pub mod LineEnds
 pub mod Listing
 pub mod NamesLemmas
 pub mod NoFloats
-pub mod Noting
 pub mod Numbers
+pub mod RunNotes
 pub mod Runs
 pub mod Unfaulted

@@ -1,6 +1,5 @@
 -- What was read is run, up to the byte after the limit; nothing was written before a fault is reported.
 use Rattle.std.proofs.Common.{◌+◌, ◌⊎◌, ℕ, List, Option, ap, subst, ◌∙◌}
-use Rattle.std.specs.Prelude.{◌≡◌}
 use Rattle.tcc_verdict.proofs.Checked.{for_any}
 use Rattle.tcc_full.specs.Runs.{TellsFault, TellsMemory}
 use Rattle.tcc_full.proofs.Runs.{failed_run, out_of_memory, read_run, runs_of, stopped}

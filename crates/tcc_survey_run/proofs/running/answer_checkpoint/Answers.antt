@@ -1,4 +1,4 @@
-use Rattle.std.proofs.Common.{◌<◌, All, sym, subst}
+use Rattle.std.proofs.Common.{◌<◌, All, sym, subst, ◌∙◌}
 use Rattle.tcc_reads.specs.History.{History, count}
 use Rattle.tcc_graph.specs.Levels.{judged}
 use Rattle.tcc_reads.specs.Traced.{traced_history}
@@ -6,7 +6,7 @@ use Rattle.tcc_survey.specs.Circles.{IsCircle}
 use Rattle.tcc_survey.specs.Contradictions.{AreContradicted, IsSurvey}
 use Rattle.tcc_survey.specs.declared.surveyed.Surveyed.TheVariants as answer
 use Rattle.tcc_survey_run.proofs.Circular.{circle_below}
-use Rattle.tcc_survey_run.proofs.Noting.{listing_noted, nothing_noted}
+use Rattle.tcc_survey_run.proofs.RunNotes.{listing_noted, nothing_noted}
 use Rattle.tcc_survey_run.proofs.Runs.{circular, listed}
 use Rattle.tcc_survey_run.proofs.running.answer_checkpoint.Goals as goal
 
@@ -23,10 +23,10 @@ returns-in-Listed-clause-noted g c =
     let s = c.args.snapshot.now in
     let j = judged (traced_history s) c.args.options.now.level in
     let is : IsSurvey j (answer.Listed c.in-Listed.found) = subst (IsSurvey j) c.in-Listed.is c.in-Ok.ensures.surveyed in
-    listing_noted s c.say_found-code.result c.in-Ok.examined.faults.items _ _ _ c.in-Ok.ensures.faults is.0 c.note_reads.ensures.each c.note_no_answer.ensures
+    listing_noted s c.say_found-code.result c.deref.result.now _ _ _ (c.deref.ensures.value ∙ c.in-Ok.ensures.faults) is.0 c.note_reads.ensures.each c.note_no_answer.ensures
 
-pub returns-in-Err-clause-noted : goal.returns-in-Err-clause-noted
-returns-in-Err-clause-noted g c = nothing_noted c.args.snapshot.now c.print_memory.result _
+pub returns-in_default-clause-noted : goal.returns-in_default-clause-noted
+returns-in_default-clause-noted g c = nothing_noted c.args.snapshot.now c.print_memory.result _
 
 pub returns-clause-noted : goal.returns-clause-noted
 returns-clause-noted g c = nothing_noted c.args.snapshot.now c.say_circle.result _

@@ -2,7 +2,7 @@
 use Rattle.std.proofs.Common.{subst}
 use Rattle.tcc_survey_run.specs.Noting.{NotesSnapshot}
 use Rattle.tcc_survey_run.specs.private.Saying.{SaysSurvey}
-use Rattle.tcc_survey_run.proofs.Noting.{noted_answer, noted_stop}
+use Rattle.tcc_survey_run.proofs.RunNotes.{noted_answer, noted_stop}
 use Rattle.tcc_survey_run.proofs.Runs.{stopped, surveyed}
 use Rattle.tcc_survey_run.proofs.running.run_recording.Goals as goal
 

@@ -1,6 +1,6 @@
 -- Of a reader whose bytes are known.
 use Rattle.tcc_verdict.proofs.Checked.{for_any, from_two}
-use Rattle.tcc_survey_run.proofs.Noting as noting
+use Rattle.tcc_survey_run.proofs.RunNotes as noting
 use Rattle.tcc_survey_run.proofs.Runs.{out_of_memory}
 use Rattle.tcc_survey_run.proofs.running.run_within.Goals as goal
 

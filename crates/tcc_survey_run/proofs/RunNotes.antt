@@ -1,6 +1,6 @@
 -- What a run notes, from the notes of its stages.
-use Rattle.std.proofs.Common.{◌≡◌, ℕ, true, List, [], ◌∷◌, Option, Ok, Err, inl, inr, refl, sym, subst}
-use Rattle.std.specs.Prelude.{◌⊎◌, Result}
+use Rattle.std.proofs.Common.{◌≡◌, ℕ, true, List, [], ◌∷◌, Option, None, Ok, Err, inl, inr, refl, subst}
+use Rattle.std.specs.Prelude.{◌⊎◌}
 use Rattle.std.specs.Io.KnownBytes.{Appends}
 use Rattle.std.proofs.KnownBytes.{Appends-nil}
 use Rattle.tcc_txn.specs.Snapshots.{Sessions}
@@ -21,7 +21,7 @@ use Rattle.tcc_print.specs.Statuses.{run_error_status}
 use Rattle.tcc_print.specs.declared.run_error.RunError.{RunError}
 use Rattle.tcc_print.specs.declared.run_error.RunError.TheVariants.{NoMemory}
 use Rattle.tcc_print.specs.declared.status.Status.TheVariants.{Memory}
-use Rattle.tcc_verdict.specs.Noting.{NotesOutcome, NotesRunError}
+use Rattle.tcc_verdict.specs.Noting.{NotesRunError}
 use Rattle.tcc_verdict.specs.Stopping.{NotesStop}
 use Rattle.tcc_verdict.proofs.NotesLemmas.{fault_noted, fault_shown}
 use Rattle.tcc_survey_run.specs.Noting.{IsNotedSurvey, NotesSnapshot}
