@@ -1,3 +1,4 @@
 pub mod Firsts
+pub mod Provable
 pub mod Answered
 pub mod private

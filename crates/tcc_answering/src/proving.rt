@@ -1,9 +1,8 @@
 //! Whether a cycle of more than four steps is a least one. An order comes with it, which need not be trusted. The judge of certificates is
 //! given the claim that the cycle is a least one, with the runs of that order, and the claim is made where it accepts.
-ghost use Rattle.std.specs.Prelude.{◌≡◌, IfOk, IfSome, IsTrue, List, Some};
-ghost use Rattle.tcc_cert.specs.{LargeTexts.HaveRunsText, declared.large.Run.Run};
-ghost use Rattle.tcc_judge.specs.{Claims.links_claim_of, Verdicts.cycle_rules};
-ghost use Rattle.tcc_rules.specs.Asked.{AllHold};
+ghost use Rattle.std.specs.Prelude.{◌≡◌, ◌↔◌, IfOk, IsTrue, MatchOption};
+ghost use Rattle.tcc_cert.specs.LargeTexts.{HasLeastText};
+ghost use Rattle.tcc_answering.specs.Provable.{IsProvable, claim_by};
 
 use crate::claims::{copied, steps_of};
 use crate::room::have_runs_text;
@@ -22,7 +21,7 @@ fn claim_with(
     links: &[Link],
     order: &[u32],
 ) -> Result<LinksClaim, NoMemory>
-    ensures { IfOk result (λ claim. (runs : List Run) × (claim ≡ links_claim_of level graph.now links.now (Some runs))) }
+    ensures { IfOk result (λ claim. claim ≡ claim_by level graph.now links.now order.now) }
 {
     let cost = steps_of(links)?;
     let runs = runs_of(alloc, graph, order)?;
@@ -38,7 +37,7 @@ fn claim_with(
 
 /// Whether a text has room for the runs of a claim.
 fn has_room(claim: &LinksClaim) -> bool
-    ensures { IsTrue result → (runs : List Run) → claim.now.least ≡ Some runs → HaveRunsText runs }
+    ensures { IsTrue result ↔ HasLeastText claim.now.least }
 {
     match &claim.least {
         Some(runs) => have_runs_text(runs.as_slice()),
@@ -46,7 +45,8 @@ fn has_room(claim: &LinksClaim) -> bool
     }
 }
 
-/// The claim that the links are a least cycle, with the runs of an order, where the judge accepts it.
+/// The claim that the links are a least cycle, with the runs of an order, exactly where the judge accepts it and its text has room for
+/// them.
 pub fn proved_claim(
     alloc: Global,
     graph: &LargeGraph,
@@ -54,8 +54,9 @@ pub fn proved_claim(
     links: &[Link],
     order: &[u32],
 ) -> Result<Option<LinksClaim>, NoMemory>
-    ensures { IfOk result (λ found. IfSome found (λ claim. (runs : List Run) × (claim ≡ links_claim_of level graph.now links.now (Some runs))
-        × HaveRunsText runs × AllHold (cycle_rules graph.now claim))) }
+    ensures { IfOk result (λ found. MatchOption found
+        (IsProvable graph.now (claim_by level graph.now links.now order.now) → ⊥)
+        (λ claim. (claim ≡ claim_by level graph.now links.now order.now) × IsProvable graph.now (claim_by level graph.now links.now order.now))) }
 {
     let claim = claim_with(alloc, graph, level, links, order)?;
     // The judge decides nothing about cycles of more steps.

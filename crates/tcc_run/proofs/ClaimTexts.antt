@@ -10,14 +10,12 @@ use Rattle.tcc_graph.specs.declared.link.Link.{Link}
 use Rattle.tcc_graph.proofs.Numberings.{one_index}
 use Rattle.tcc_graph.proofs.Pairs.{initial_pair}
 use Rattle.tcc_cert.specs.LargeTexts.{HasLeastText, HasLinksClaimText, HasRunsClaimText, HaveRunsText}
-use Rattle.tcc_cert.specs.RunsTold.{order_claim_of}
+use Rattle.tcc_cert.specs.RunsTold.{order_claim_of, runs_told}
 use Rattle.tcc_cert.specs.declared.large.LinksClaim.{LinksClaim}
 use Rattle.tcc_cert.specs.declared.large.Run.{Run}
-use Rattle.tcc_rules.specs.Asked.{AllHold}
 use Rattle.tcc_explain.proofs.CertifiedOrder.{numbering_long}
 use Rattle.tcc_judge.specs.Claims.{links_claim_of}
-use Rattle.tcc_judge.specs.Verdicts.{cycle_rules}
-use Rattle.tcc_run.specs.private.LargeStages.{IsCycleClaim, IsLongClaim}
+use Rattle.tcc_run.specs.private.LargeStages.{IsClaimByOrder, IsClaimedWhereProvable, IsCycleClaim, IsLongClaim}
 
 -- a commit order begins with `init`
 begins : (h : History) (level : Level) (order : List ℕ) → 0 < count h → IsCommitOrder (judged h level) order → (rest : List ℕ) × (0 ∷ rest ≡ order)
@@ -45,6 +43,28 @@ order_room h level order some text commit =
 no_runs : HaveRunsText []
 no_runs = record { many = omega arith; each = search rules }
 
+-- ---- the claim of more than four steps, by the order that came
+module _ (level : Level) (h : History) (links : List Link) where
+  pub long_by_order : (order : Option (List ℕ)) (k : LinksClaim) → IsClaimByOrder level h links order (Some k) → IsLongClaim level h links k
+  long_by_order None k none = absurd cc
+  long_by_order (Some order) k made = inr (runs_told h order, made.0, made.1)
+
+  -- where it is made it says something of the least cost
+  says_least : (k : LinksClaim) (runs : List Run) → k ≡ links_claim_of level h links (Some runs) → k.least ≡ None → ⊥
+  says_least k runs same none =
+      let least : k.least ≡ Some runs = ap (λ (one : LinksClaim). one.least) same in absurd cc
+
+  pub made_by_order : (order : Option (List ℕ)) (k : LinksClaim) → IsClaimByOrder level h links order (Some k)
+      → IsClaimedWhereProvable level h links order k
+  made_by_order None k none = tt
+  made_by_order (Some order) k made = λ none provable. says_least k (runs_told h order) made.0 none
+
+  -- else it can't be proved
+  pub not_by_order : (order : Option (List ℕ)) (k : LinksClaim) → IsClaimByOrder level h links order None
+      → IsClaimedWhereProvable level h links order k
+  not_by_order None k none = tt
+  not_by_order (Some order) k refused = λ none provable. refused provable
+
 module _ (level : Level) (h : History) (links : List Link) (k : LinksClaim)
     (room : (least : Option (List Run)) → HasLeastText least → HasLinksClaimText (links_claim_of level h links least)) where
   -- up to four steps no runs are needed
@@ -54,7 +74,7 @@ module _ (level : Level) (h : History) (links : List Link) (k : LinksClaim)
   -- above that the judge accepts the runs; or nothing is claimed about the least cost
   pub long_claimed : 4 < cost links → IsLongClaim level h links k → IsCycleClaim level h links k
   long_claimed long (inl same) = ((None, long, same), subst HasLinksClaimText (sym same) (room None tt))
-  long_claimed long (inr (runs, same, short, keeps)) = (
-    (Some runs, inr (long, subst (λ (k : LinksClaim). AllHold (cycle_rules h k)) same keeps), same),
-    subst HasLinksClaimText (sym same) (room (Some runs) short),
+  long_claimed long (inr (runs, same, proved)) = (
+    (Some runs, inr (long, proved.1), same),
+    subst HasLinksClaimText (sym same) (room (Some runs) proved.0),
   )

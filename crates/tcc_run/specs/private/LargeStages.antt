@@ -1,5 +1,5 @@
 -- How the stages of a run follow one another.
-use Rattle.std.specs.Prelude.{ℕ, ◌≡◌, ◌≢◌, ◌⊎◌, Bool, false, true, List, [], take, unwrap_or, Option, None, Some, Result, Ok, Err}
+use Rattle.std.specs.Prelude.{ℕ, ◌≡◌, ◌≢◌, ◌⊎◌, Bool, false, true, List, [], take, unwrap_or, Option, None, Some, MatchOption, Result, Ok, Err}
 use Rattle.std.specs.Io.KnownBytes.{Appends}
 use Rattle.tcc_txn.specs.Finished.{KeepsLimits}
 use Rattle.tcc_txn.specs.Snapshots.{Sessions}
@@ -11,7 +11,7 @@ use Rattle.tcc_graph.specs.Answers as first
 use Rattle.tcc_graph.specs.Levels.{judged}
 use Rattle.tcc_graph.specs.declared.level.Level.{Level}
 use Rattle.tcc_graph.specs.declared.link.Link.{Link}
-use Rattle.tcc_cert.specs.LargeTexts.{HasLargeText, HasLinksClaimText, HaveRunsText, large_certificate_text}
+use Rattle.tcc_cert.specs.LargeTexts.{HasLargeText, HasLinksClaimText, large_certificate_text}
 use Rattle.tcc_cert.specs.Texts.{certificate_text}
 use Rattle.tcc_cert.specs.declared.large.LargeCertificate.{LargeCertificate}
 use Rattle.tcc_cert.specs.declared.large.LinksClaim.{LinksClaim}
@@ -19,11 +19,10 @@ use Rattle.tcc_cert.specs.declared.large.Run.{Run}
 use Rattle.tcc_answer.specs.Claims.{certificate_of}
 use Rattle.tcc_answer.specs.declared.answer.Answer.{Answer}
 use Rattle.tcc_answer.specs.declared.answer.Answer.TheVariants as answer
-use Rattle.tcc_rules.specs.Asked.{AllHold}
 use Rattle.tcc_explain.specs.Explained.{IsAnswerOfHistory, IsBareAnswer}
 use Rattle.tcc_explain.specs.Tabled.{with_tables}
 use Rattle.tcc_judge.specs.Claims.{links_claim_of}
-use Rattle.tcc_judge.specs.Verdicts.{cycle_rules}
+use Rattle.tcc_answering.specs.Provable.{IsProvable, claim_by}
 use Rattle.tcc_print.specs.Courses.{Contents, Gains, Said}
 use Rattle.tcc_print.specs.Printed.{Prints, answered, device_line, memory_line, unresolved}
 use Rattle.tcc_print.specs.Statuses.{answer_status, code_of}
@@ -57,7 +56,19 @@ IsBareOf level h o = (a : Answer) × (o ≡ outcome.Bare h a) × IsBareAnswer (j
 abbrev pub IsLongClaim : Level → History → List Link → LinksClaim → Type 0
 IsLongClaim level h links claim =
     (claim ≡ links_claim_of level h links None)
-    ⊎ ((runs : List Run) × (claim ≡ links_claim_of level h links (Some runs)) × HaveRunsText runs × AllHold (cycle_rules h claim))
+    ⊎ ((runs : List Run) × (claim ≡ links_claim_of level h links (Some runs)) × IsProvable h (links_claim_of level h links (Some runs)))
+
+-- the claim that the links are a least cycle exactly where that can be proved by the order; none where there is no order
+abbrev pub IsClaimByOrder : Level → History → List Link → Option (List ℕ) → Option LinksClaim → Type 0
+IsClaimByOrder level h links None claim = claim ≡ None
+IsClaimByOrder level h links (Some order) claim = MatchOption claim
+    (IsProvable h (claim_by level h links order) → ⊥)
+    (λ made. (made ≡ claim_by level h links order) × IsProvable h (claim_by level h links order))
+
+-- the claim says nothing of the least cost only where that can't be proved by the order, or there is none
+abbrev pub IsClaimedWhereProvable : Level → History → List Link → Option (List ℕ) → LinksClaim → Type 0
+IsClaimedWhereProvable level h links None claim = Unit {0}
+IsClaimedWhereProvable level h links (Some order) claim = claim.least ≡ None → IsProvable h (claim_by level h links order) → ⊥
 
 -- the claim of a first cycle, for whose text there is room
 abbrev pub IsCycleClaim : Level → History → List Link → LinksClaim → Type 0

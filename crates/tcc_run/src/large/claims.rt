@@ -1,7 +1,7 @@
 //! What the first cycle of a large history claims: its links, and that no cycle has fewer steps, as far as the judge accepts that.
-ghost use Rattle.std.specs.Prelude.{◌≡◌, [], IfOk};
+ghost use Rattle.std.specs.Prelude.{◌≡◌, [], IfOk, option_map};
 ghost use Rattle.tcc_judge.specs.Claims.{links_claim_of};
-ghost use Rattle.tcc_run.specs.private.LargeStages.{IsCycleClaim, IsLongClaim};
+ghost use Rattle.tcc_run.specs.private.LargeStages.{IsClaimByOrder, IsClaimedWhereProvable, IsCycleClaim, IsLongClaim};
 
 use crate::large::room::check_room;
 use std::alloc::Global;
@@ -41,7 +41,23 @@ fn links_claim(
     })
 }
 
-/// The claim of a cycle of more than four steps: that no cycle has fewer, where the judge accepts that by the order; else that it is a
+/// The claim that the links are a least cycle, where an order came and the judge accepts it by that.
+fn claim_by_order(
+    alloc: Global,
+    graph: &LargeGraph,
+    level: Level,
+    links: &[Link],
+    order: &Option<Vec<u32>>,
+) -> Result<Option<LinksClaim>, NoMemory>
+    ensures { IfOk result (IsClaimByOrder level graph.now links.now (option_map (λ order. order.items) order.now)) }
+{
+    match order {
+        Some(order) => proved_claim(alloc, graph, level, links, order),
+        None => Ok(None),
+    }
+}
+
+/// The claim of a cycle of more than four steps: that no cycle has fewer, wherever the judge accepts that by the order; else that it is a
 /// cycle.
 fn long_claim(
     alloc: Global,
@@ -50,14 +66,13 @@ fn long_claim(
     links: &[Link],
     order: &Option<Vec<u32>>,
 ) -> Result<LinksClaim, NoMemory>
-    ensures { IfOk result (IsLongClaim level graph.now links.now) }
+    ensures claim { IfOk result (IsLongClaim level graph.now links.now) }
+    ensures made { IfOk result (IsClaimedWhereProvable level graph.now links.now (option_map (λ order. order.items) order.now)) }
 {
-    if let Some(order) = order {
-        if let Some(claim) = proved_claim(alloc, graph, level, links, order)? {
-            return Ok(claim);
-        }
+    match claim_by_order(alloc, graph, level, links, order)? {
+        Some(claim) => Ok(claim),
+        None => links_claim(alloc, graph, level, links, None),
     }
-    links_claim(alloc, graph, level, links, None)
 }
 
 /// The claim of a least cycle, for whose text there is room. Up to four steps it claims that no cycle has fewer, for which no runs are

@@ -15,4 +15,4 @@ pub returns-else-branch-le-SHORT : goal.returns-else-branch-le-SHORT
 returns-else-branch-le-SHORT c =
     let long : 4 < cost c.args.links.now = omega (arith, c.if-branch-le-SHORT.false, c.in_ok-steps_of.ensures.steps) in
     IfOk-weaker c.long_claim.result _ _
-    (λ claim is. long_claimed c.args.level c.args.graph.now c.args.links.now claim (c.in_ok-check_room.ensures c.args.level) long is) c.long_claim.ensures
+    (λ claim is. long_claimed c.args.level c.args.graph.now c.args.links.now claim (c.in_ok-check_room.ensures c.args.level) long is) c.long_claim.ensures.claim

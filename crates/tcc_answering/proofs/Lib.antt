@@ -1,0 +1,2 @@
+-- Lemmas on what the judge says.
+mod Judged
