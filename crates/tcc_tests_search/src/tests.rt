@@ -10,5 +10,6 @@ mod large;
 mod near;
 mod order;
 mod packed;
+mod side_by_side;
 mod workers;
 mod world;
