@@ -40,34 +40,30 @@ fn threads_now(rt: &(impl Abort + Alloc + Files)) -> u32 {
     count.trim().parse().expect(rt, "no number")
 }
 
-/// The most threads at once that were seen to find the order of a graph, by this many workers.
-fn most_at_once(
-    rt: &(impl Abort + Alloc + Files + Threads + Sync),
+/// The most threads that the process has until the work is done.
+fn most_until(rt: &(impl Abort + Alloc + Files), is_done: &AtomicBool) -> u32 {
+    let mut most = 0;
+    for _ in 0..100_000_000u32 {
+        if is_done.load(Ordering::SeqCst) {
+            break;
+        }
+        most = threads_now(rt).max(most);
+        thread::yield_now();
+    }
+    most
+}
+
+/// Finds the order of a graph by this many workers.
+fn find_order(
+    rt: &(impl Abort + Threads + Sync),
     alloc: Global,
     graph: &LargeGraph,
     workers: Workers,
-) -> u32 {
-    let before = threads_now(rt);
-    let is_done = AtomicBool::new(false);
-    let count = || {
-        let mut most = 0;
-        for _ in 0..100_000_000u32 {
-            if is_done.load(Ordering::SeqCst) {
-                break;
-            }
-            most = threads_now(rt).max(most);
-            thread::yield_now();
-        }
-        most
-    };
-    let find = || {
-        let found = place_by(rt, alloc, graph, Level::Causal, workers).expect(rt, "no memory");
-        assert!(rt; matches!(found, Placement::Order(_)));
-        is_done.store(true, Ordering::SeqCst);
-    };
-    // beside those before there are the one that counts, and all but one of those that find the order
-    let (most, ()) = join(rt, count, find);
-    most.saturating_sub(before)
+    is_done: &AtomicBool,
+) {
+    let found = place_by(rt, alloc, graph, Level::Causal, workers).expect(rt, "no memory");
+    assert!(rt; matches!(found, Placement::Order(_)));
+    is_done.store(true, Ordering::SeqCst);
 }
 
 /// Two workers find an order side by side, and so do four. A mutant fails that finds the links of all blocks in one thread, or of one
@@ -83,7 +79,21 @@ fn threads_of_an_order(rt: HostRuntime) {
     for count in [2, 4] {
         let workers = Workers::new(count).expect(&rt, "1 to 32 workers");
         let wanted = if processors == 1 { 2 } else { count };
-        let is_seen = (0..100u32).any(|_| wanted <= most_at_once(&rt, alloc, &graph, workers));
+        let mut is_seen = false;
+        for _ in 0..100u32 {
+            let before = threads_now(&rt);
+            let is_done = AtomicBool::new(false);
+            // beside those before there are the one that counts, and all but one of those that find the order
+            let (most, ()) = join(
+                &rt,
+                || most_until(&rt, &is_done),
+                || find_order(&rt, alloc, &graph, workers, &is_done),
+            );
+            is_seen = is_seen || wanted <= most.saturating_sub(before);
+            if is_seen {
+                break;
+            }
+        }
         assert!(rt; is_seen, "by {count} workers");
     }
 }
